@@ -1,0 +1,4 @@
+pub mod Subterms
+pub mod Replacing
+pub mod Listing
+pub mod Building
