@@ -7,7 +7,7 @@ use Rattle.dps_terms.specs.Tree.{Leaf, public, private, var, ax, entry, rigid, T
 use Rattle.dps_terms.specs.Replace.{replace, replace_all, substitute, variables_to}
 use Rattle.dps_terms.specs.Signature.{Signature, HasArity, shapes}
 use Rattle.dps_terms.specs.Kinds.{IsBuiltOf, AreBuiltOf, IsClosed, IsNoVariable, AnySymbol, IsOver, IsLeafOver}
-use Rattle.dps_terms.proofs.Replacing.{replace_stays}
+use Rattle.dps_terms.proofs.Replacing.{replace_itself, replace_stays}
 
 pub count-replace_all : (f : Leaf → Tree) (ts : Trees) → count (replace_all f ts) ≡ count ts
 count-replace_all f none = refl
@@ -48,6 +48,11 @@ module _ (L : Leaf → Type 0) (S : Sym → ℕ → Type 0) where
       pub built_instances : (ts : Trees) → AreBuiltOf L S ts → ((x : Leaf) → IsAmong (leaf x) ts → L x → IsBuiltOf M S (f x)) → AreBuiltOf M S (replace_all f ts)
       built_instances none b h = tt
       built_instances (more t ts) b h = (built_instance t b.0 (λ x k. h x (in_first k)), built_instances ts b.1 (λ x k. h x (in_rest k)))
+
+-- a tree of weaker leaves
+pub built_weaker : (L : Leaf → Type 0) (S : Sym → ℕ → Type 0) (M : Leaf → Type 0) (t : Tree) → IsBuiltOf L S t → ((x : Leaf) → L x → M x) → IsBuiltOf M S t
+built_weaker L S M t b h =
+    subst (IsBuiltOf M S) (replace_itself t) (built_instance L S M leaf t b (λ x k l. h x l))
 
 no_variable : (t : Tree) → ((n : ℕ) → ¬ StandsIn (var n) t) → (x : Leaf) → StandsIn x t → IsNoVariable x
 no_variable t h (public n) k = tt

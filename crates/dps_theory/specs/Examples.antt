@@ -1,0 +1,1 @@
+-- Small frames over pairs of names.

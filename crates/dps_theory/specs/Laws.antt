@@ -1,0 +1,98 @@
+-- What a reader expects of evaluation and static equivalence, each stated as one fact.
+use Rattle.std.specs.Prelude.{◌≡◌, ◌↔◌, ℕ, List, take, length}
+use Rattle.dps_terms.specs.declared.SymKind.TheVariants.{Constructor}
+use Rattle.dps_terms.specs.Tree.{Leaf, Tree, Trees, leaf, StandsIn}
+use Rattle.dps_terms.specs.Replace.{replace}
+use Rattle.dps_terms.specs.Signature.{Signature, HasShape, shapes}
+use Rattle.dps_terms.specs.Kinds.{IsName, IsNoVariable, IsBuiltOf, IsRecipe}
+use Rattle.dps_theory.specs.Theory.{Rule, Theory, HasRule, IsAccepted, HasPlainRules}
+use Rattle.dps_theory.specs.Evaluation.{Evaluates, IsMessage}
+use Rattle.dps_theory.specs.Frames.{HasValue, Succeeds, HaveOneValue, AreStaticallyEquivalent, Test, Separates, AreToldApart}
+
+-- under an accepted theory a term has at most one value
+abbrev pub EvaluatesAtMostOnce : Type 0
+EvaluatesAtMostOnce = (theory : Theory) (t v w : Tree) → IsAccepted theory → Evaluates theory t v → Evaluates theory t w → v ≡ w
+
+-- of constructors over names, each constructor with its arity
+abbrev pub IsPlain : Theory → Tree → Type 0
+IsPlain theory t = IsBuiltOf IsName (HasShape theory.shapes Constructor) t
+
+-- a term without destructors evaluates to itself, and to nothing else
+abbrev pub PlainStays : Type 0
+PlainStays = (theory : Theory) (t : Tree) → IsPlain theory t → Evaluates theory t t × ((v : Tree) → Evaluates theory t v → v ≡ t)
+
+-- what a term evaluates to holds no destructor
+abbrev pub ValuesArePlain : Type 0
+ValuesArePlain = (theory : Theory) (t v : Tree) → IsAccepted theory → HasPlainRules theory → Evaluates theory t v → IsPlain theory v
+
+-- what a replacement leaves of the rules of a theory: each leaf that stands in them and is no variable
+pub record KeepsRules (theory : Theory) (f : Leaf → Tree) : Type 0 where
+  pub left : (r : Rule) → HasRule theory r → (x : Leaf) → StandsIn x r.left → IsNoVariable x → f x ≡ leaf x
+  pub right : (r : Rule) → HasRule theory r → (x : Leaf) → StandsIn x r.right → IsNoVariable x → f x ≡ leaf x
+
+-- evaluation is kept where names that stand in no rule become terms that evaluate to themselves
+abbrev pub ReplacedNamesEvaluate : Type 0
+ReplacedNamesEvaluate =
+    (theory : Theory) (f : Leaf → Tree) (t v : Tree)
+    → KeepsRules theory f
+    → ((x : Leaf) → IsName x → Evaluates theory (f x) (f x))
+    → Evaluates theory t v
+    → Evaluates theory (replace f t) (replace f v)
+
+-- and it is kept backwards where the replacement can be undone on the term
+abbrev pub ReplacedNamesReflect : Type 0
+ReplacedNamesReflect =
+    (theory : Theory) (f back : Leaf → Tree) (t w : Tree)
+    → KeepsRules theory back
+    → ((x : Leaf) → IsName x → Evaluates theory (back x) (back x))
+    → ((x : Leaf) → StandsIn x t → replace back (f x) ≡ leaf x)
+    → Evaluates theory (replace f t) w
+    → Evaluates theory t (replace back w)
+
+-- static equivalence is an equivalence
+abbrev pub StaticallyReflexive : Type 0
+StaticallyReflexive = (signature : Signature) (theory : Theory) (frame : List Tree) → AreStaticallyEquivalent signature theory frame frame
+
+abbrev pub StaticallySymmetric : Type 0
+StaticallySymmetric =
+    (signature : Signature) (theory : Theory) (first second : List Tree)
+    → AreStaticallyEquivalent signature theory first second → AreStaticallyEquivalent signature theory second first
+
+abbrev pub StaticallyTransitive : Type 0
+StaticallyTransitive =
+    (signature : Signature) (theory : Theory) (first second third : List Tree)
+    → AreStaticallyEquivalent signature theory first second
+    → AreStaticallyEquivalent signature theory second third
+    → AreStaticallyEquivalent signature theory first third
+
+-- statically equivalent frames begin with statically equivalent frames
+abbrev pub PrefixesStayEquivalent : Type 0
+PrefixesStayEquivalent =
+    (signature : Signature) (theory : Theory) (first second : List Tree) (n : ℕ)
+    → AreStaticallyEquivalent signature theory first second
+    → AreStaticallyEquivalent signature theory (take n first) (take n second)
+
+-- a test that holds in just one frame refutes it
+abbrev pub SeparatedAreNotEquivalent : Type 0
+SeparatedAreNotEquivalent =
+    (signature : Signature) (theory : Theory) (first second : List Tree)
+    → AreToldApart signature theory first second
+    → ¬ AreStaticallyEquivalent signature theory first second
+
+-- the same in terms of values: two recipes that have values in both frames have equal ones in both or in neither
+pub record AgreeOnValues (signature : Signature) (theory : Theory) (first second : List Tree) : Type 0 where
+  pub same_length : length first ≡ length second
+  pub same_successes :
+    (r : Tree) → IsRecipe signature (length first) r
+    → Succeeds theory first r ↔ Succeeds theory second r
+  pub same_equalities :
+    (r s : Tree) → IsRecipe signature (length first) r → IsRecipe signature (length first) s
+    → (v w x y : Tree) → HasValue theory first r v → HasValue theory first s w → HasValue theory second r x → HasValue theory second s y
+    → (v ≡ w) ↔ (x ≡ y)
+
+-- under an accepted theory that is static equivalence
+abbrev pub EquivalenceIsOfValues : Type 0
+EquivalenceIsOfValues =
+    (signature : Signature) (theory : Theory) (first second : List Tree)
+    → IsAccepted theory
+    → AreStaticallyEquivalent signature theory first second ↔ AgreeOnValues signature theory first second

@@ -1,0 +1,5 @@
+pub mod Theory
+pub mod Evaluation
+pub mod Frames
+pub mod Laws
+pub mod Examples

@@ -1,0 +1,1 @@
+//! Small frames, and whether an attacker tells them apart.

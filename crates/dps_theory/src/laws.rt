@@ -1,0 +1,57 @@
+//! The laws of evaluation and static equivalence. Each function does nothing: its contract is the law.
+ghost use Rattle.dps_theory.specs.Laws.{EvaluatesAtMostOnce, PlainStays, ValuesArePlain, ReplacedNamesEvaluate, ReplacedNamesReflect, StaticallyReflexive, StaticallySymmetric, StaticallyTransitive, PrefixesStayEquivalent, SeparatedAreNotEquivalent, EquivalenceIsOfValues};
+
+/// Under an accepted theory a term evaluates to at most one value.
+pub fn evaluates_at_most_once()
+    ensures { EvaluatesAtMostOnce }
+{}
+
+/// A term without destructors evaluates to itself alone.
+pub fn plain_stays()
+    ensures { PlainStays }
+{}
+
+/// What a term evaluates to holds no destructor.
+pub fn values_are_plain()
+    ensures { ValuesArePlain }
+{}
+
+/// Evaluation is kept where names that stand in no rule become terms that evaluate to themselves.
+pub fn replaced_names_evaluate()
+    ensures { ReplacedNamesEvaluate }
+{}
+
+/// Where such a replacement can be undone, the instance evaluates only where the term does.
+pub fn replaced_names_reflect()
+    ensures { ReplacedNamesReflect }
+{}
+
+/// A frame is statically equivalent to itself.
+pub fn statically_reflexive()
+    ensures { StaticallyReflexive }
+{}
+
+/// Static equivalence goes both ways.
+pub fn statically_symmetric()
+    ensures { StaticallySymmetric }
+{}
+
+/// Frames equivalent to one frame are equivalent.
+pub fn statically_transitive()
+    ensures { StaticallyTransitive }
+{}
+
+/// Statically equivalent frames begin with statically equivalent frames.
+pub fn prefixes_stay_equivalent()
+    ensures { PrefixesStayEquivalent }
+{}
+
+/// Frames that a test tells apart are not statically equivalent.
+pub fn separated_are_not_equivalent()
+    ensures { SeparatedAreNotEquivalent }
+{}
+
+/// Under an accepted theory static equivalence compares the values of recipes.
+pub fn equivalence_is_of_values()
+    ensures { EquivalenceIsOfValues }
+{}
