@@ -1,3 +1,5 @@
 pub mod Evaluating
 pub mod Renaming
 pub mod Equivalence
+pub mod Encryption
+pub mod Hiding
