@@ -78,11 +78,14 @@ reduces t key = record {
   right = refl;
 }
 
-pub right_key : IsMessage theory (over sdec (over senc a b) b)
-right_key =
-    (a, reduced (more (over senc a b) (more b none)) refl (a_term (plain_evaluates theory (over senc a b) (refl, (tt, (tt, tt)))) (a_term (named tt) no_terms)) (reduces a b))
+pub opens : Evaluates theory (over sdec (over senc a b) b) a
+opens =
+    reduced (more (over senc a b) (more b none)) refl (a_term (plain_evaluates theory (over senc a b) (refl, (tt, (tt, tt)))) (a_term (named tt) no_terms)) (reduces a b)
 
-different_results : a ≡ b → ⊥
+pub right_key : IsMessage theory (over sdec (over senc a b) b)
+right_key = (a, opens)
+
+pub different_results : a ≡ b → ⊥
 different_results e = let f : Declared 0 ≡ Declared 1 = cc in let g : ◌≡◌ {A = ℕ} 0 1 = cc in omega arith
 
 first_fails : (t u : Tree) (ts vs : Trees) → ts ≡ more t (more u none) → ((w : Tree) → Evaluates theory t w → ⊥) → EvaluateAll theory ts vs → ⊥
@@ -133,11 +136,14 @@ different_names : k ≡ n → ⊥
 different_names e = let f : private 0 ≡ private 1 = cc in let g : ◌≡◌ {A = ℕ} 0 1 = cc in omega arith
 
 pub repetition_told : AreToldApart signature theory (k ∷ k ∷ []) (k ∷ n ∷ [])
-repetition_told = (equal (leaf (ax 1)) (leaf (ax 2)), inl (record {
-  over = ((omega arith, omega arith), (omega arith, omega arith));
-  holds = record { value = k; left = named tt; right = named tt };
-  fails = λ e. different_names (plain_equal theory k n tt tt e);
-}))
+repetition_told = (
+  equal (leaf (ax 1)) (leaf (ax 2)),
+  inl (record {
+    over = ((omega arith, omega arith), (omega arith, omega arith));
+    holds = record { value = k; left = named tt; right = named tt };
+    fails = λ e. different_names (plain_equal theory k n tt tt e);
+  }),
+)
 
 different_ciphertexts : over senc b k ≡ over senc a k → ⊥
 different_ciphertexts e = let f : Declared 1 ≡ Declared 0 = cc in let g : ◌≡◌ {A = ℕ} 1 0 = cc in omega arith
@@ -146,11 +152,14 @@ pub cipher_plain : (c : Tree) → IsPlain theory c → IsPlain theory (over senc
 cipher_plain c p = (refl, (p, (tt, tt)))
 
 pub key_told : AreToldApart signature theory (told_key a) (told_key b)
-key_told = (equal (leaf (ax 1)) (over senc a (leaf (ax 2))), inl (record {
-  over = ((omega arith, omega arith), ((Constructor, refl), ((codes "a", refl), ((omega arith, omega arith), tt))));
-  holds = record { value = over senc a k; left = plain_evaluates theory (over senc a k) (cipher_plain a tt); right = plain_evaluates theory (over senc a k) (cipher_plain a tt) };
-  fails = λ e. different_ciphertexts (plain_equal theory (over senc b k) (over senc a k) (cipher_plain b tt) (cipher_plain a tt) e);
-}))
+key_told = (
+  equal (leaf (ax 1)) (over senc a (leaf (ax 2))),
+  inl (record {
+    over = ((omega arith, omega arith), ((Constructor, refl), ((codes "a", refl), ((omega arith, omega arith), tt))));
+    holds = record { value = over senc a k; left = plain_evaluates theory (over senc a k) (cipher_plain a tt); right = plain_evaluates theory (over senc a k) (cipher_plain a tt) };
+    fails = λ e. different_ciphertexts (plain_equal theory (over senc b k) (over senc a k) (cipher_plain b tt) (cipher_plain a tt) e);
+  }),
+)
 
 -- the two rules of which a name is an instance of both left sides
 overlap_first : HasRule overlapping (record { left = over sdec x y; right = x })

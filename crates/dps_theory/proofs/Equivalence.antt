@@ -96,17 +96,17 @@ module _ (signature : Signature) where
     prefixes first second n e = record {
       same_length = same_take n first second e.same_length;
       same_successes = λ r h.
-        (let p = e.same_successes r (longer (length (take n first)) (length first) r (take_le n first) h) in
-        let a = in_frame-take n first r h in
-        let b = in_frame-take n second r (subst (λ m. IsRecipe signature m r) (same_take n first second e.same_length) h) in
-        subst (λ t. IsMessage theory t ↔ IsMessage theory (in_frame (take n second) r)) (sym a) (subst (λ t. IsMessage theory (in_frame first r) ↔ IsMessage theory t) (sym b) p));
+          (let p = e.same_successes r (longer (length (take n first)) (length first) r (take_le n first) h) in
+          let a = in_frame-take n first r h in
+          let b = in_frame-take n second r (subst (λ m. IsRecipe signature m r) (same_take n first second e.same_length) h) in
+          subst (λ t. IsMessage theory t ↔ IsMessage theory (in_frame (take n second) r)) (sym a) (subst (λ t. IsMessage theory (in_frame first r) ↔ IsMessage theory t) (sym b) p));
       same_equalities = λ r s h k.
-        (let p = e.same_equalities r s (longer (length (take n first)) (length first) r (take_le n first) h) (longer (length (take n first)) (length first) s (take_le n first) k) in
-        let a = in_frame-take n first r h in
-        let b = in_frame-take n second r (subst (λ m. IsRecipe signature m r) (same_take n first second e.same_length) h) in
-        let c = in_frame-take n first s k in
-        let d = in_frame-take n second s (subst (λ m. IsRecipe signature m s) (same_take n first second e.same_length) k) in
-        (λ q. one_value (sym b) (sym d) (p.0 (one_value a c q)), λ q. one_value (sym a) (sym c) (p.1 (one_value b d q))));
+          (let p = e.same_equalities r s (longer (length (take n first)) (length first) r (take_le n first) h) (longer (length (take n first)) (length first) s (take_le n first) k) in
+          let a = in_frame-take n first r h in
+          let b = in_frame-take n second r (subst (λ m. IsRecipe signature m r) (same_take n first second e.same_length) h) in
+          let c = in_frame-take n first s k in
+          let d = in_frame-take n second s (subst (λ m. IsRecipe signature m s) (same_take n first second e.same_length) k) in
+          (λ q. one_value (sym b) (sym d) (p.0 (one_value a c q)), λ q. one_value (sym a) (sym c) (p.1 (one_value b d q))));
     }
       where
         one_value : {t u v w : Tree} → t ≡ v → u ≡ w → AreEqual theory t u → AreEqual theory v w
@@ -125,7 +125,7 @@ module _ (signature : Signature) (theory : Theory) (accepted : IsAccepted theory
     same_length = e.same_length;
     same_successes = e.same_successes;
     same_equalities = λ r s h k v w x y a b c d.
-      (let p = e.same_equalities r s h k in (equal_in first second r s v w x y p.0 a b c d, equal_in second first r s x y v w p.1 c d a b));
+        (let p = e.same_equalities r s h k in (equal_in first second r s v w x y p.0 a b c d, equal_in second first r s x y v w p.1 c d a b));
   }
 
   pub from_values : (first second : List Tree) → AgreeOnValues signature theory first second → AreStaticallyEquivalent signature theory first second

@@ -55,11 +55,11 @@ module _ (theory : Theory) (f : Leaf → Tree) (keeps : KeepsRules theory f) whe
       replaced_evaluate (a_term a r) = a_term (replaced_evaluates a) (replaced_evaluate r)
 
 pub replaced_reflects :
-  (theory : Theory) (f back : Leaf → Tree) (t w : Tree)
-  → KeepsRules theory back
-  → ((x : Leaf) → IsName x → Evaluates theory (back x) (back x))
-  → ((x : Leaf) → StandsIn x t → replace back (f x) ≡ leaf x)
-  → Evaluates theory (replace f t) w
-  → Evaluates theory t (replace back w)
+    (theory : Theory) (f back : Leaf → Tree) (t w : Tree)
+    → KeepsRules theory back
+    → ((x : Leaf) → IsName x → Evaluates theory (back x) (back x))
+    → ((x : Leaf) → StandsIn x t → replace back (f x) ≡ leaf x)
+    → Evaluates theory (replace f t) w
+    → Evaluates theory t (replace back w)
 replaced_reflects theory f back t w keeps names undone e =
     subst (λ u. Evaluates theory u (replace back w)) (replace_undone f back t undone) (replaced_evaluates theory back keeps names e)

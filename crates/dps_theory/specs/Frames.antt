@@ -27,11 +27,11 @@ HaveOneValue theory frame r s = AreEqual theory (in_frame frame r) (in_frame fra
 pub record AreStaticallyEquivalent (signature : Signature) (theory : Theory) (first second : List Tree) : Type 0 where
   pub same_length : length first ≡ length second
   pub same_successes :
-    (r : Tree) → IsRecipe signature (length first) r
-    → Succeeds theory first r ↔ Succeeds theory second r
+      (r : Tree) → IsRecipe signature (length first) r
+      → Succeeds theory first r ↔ Succeeds theory second r
   pub same_equalities :
-    (r s : Tree) → IsRecipe signature (length first) r → IsRecipe signature (length first) s
-    → HaveOneValue theory first r s ↔ HaveOneValue theory second r s
+      (r s : Tree) → IsRecipe signature (length first) r → IsRecipe signature (length first) s
+      → HaveOneValue theory first r s ↔ HaveOneValue theory second r s
 
 -- a test that an attacker makes on a frame: whether a recipe has a value, or whether two have one value
 pub data Test : Type 0 where

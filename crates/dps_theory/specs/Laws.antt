@@ -83,12 +83,12 @@ SeparatedAreNotEquivalent =
 pub record AgreeOnValues (signature : Signature) (theory : Theory) (first second : List Tree) : Type 0 where
   pub same_length : length first ≡ length second
   pub same_successes :
-    (r : Tree) → IsRecipe signature (length first) r
-    → Succeeds theory first r ↔ Succeeds theory second r
+      (r : Tree) → IsRecipe signature (length first) r
+      → Succeeds theory first r ↔ Succeeds theory second r
   pub same_equalities :
-    (r s : Tree) → IsRecipe signature (length first) r → IsRecipe signature (length first) s
-    → (v w x y : Tree) → HasValue theory first r v → HasValue theory first s w → HasValue theory second r x → HasValue theory second s y
-    → (v ≡ w) ↔ (x ≡ y)
+      (r s : Tree) → IsRecipe signature (length first) r → IsRecipe signature (length first) s
+      → (v w x y : Tree) → HasValue theory first r v → HasValue theory first s w → HasValue theory second r x → HasValue theory second s y
+      → (v ≡ w) ↔ (x ≡ y)
 
 -- under an accepted theory that is static equivalence
 abbrev pub EquivalenceIsOfValues : Type 0

@@ -43,9 +43,9 @@ pub record IsAccepted (theory : Theory) : Type 0 where
   pub bounded : (r : Rule) → HasRule theory r → IsStrictSubterm r.right r.left ⊎ IsClosed r.right
   -- where instances of two left sides are equal, so are those of the right sides: the two substitutions are any two
   pub agreeing :
-    (r q : Rule) → HasRule theory r → HasRule theory q
-    → (y z : ℕ → Tree) → substitute y r.left ≡ substitute z q.left
-    → substitute y r.right ≡ substitute z q.right
+      (r q : Rule) → HasRule theory r → HasRule theory q
+      → (y z : ℕ → Tree) → substitute y r.left ≡ substitute z q.left
+      → substitute y r.right ≡ substitute z q.right
 
 -- what a rule of a file is written with: declared names and variables
 abbrev pub IsDeclaredName : PublicName → Type 0

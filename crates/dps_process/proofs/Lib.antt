@@ -1,0 +1,5 @@
+pub mod Bags
+pub mod Substituting
+pub mod Running
+pub mod Tracing
+pub mod Branches

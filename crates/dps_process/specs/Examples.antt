@@ -1,0 +1,36 @@
+-- Small tests and bindings, over the signature and the theory of symmetric encryption.
+use Rattle.std.specs.Prelude.{◌≡◌, List, [], ◌∷◌}
+use Rattle.dps_terms.specs.Tree.{Tree}
+use Rattle.dps_theory.specs.Examples.{signature, theory, over, senc, sdec, a, b}
+use Rattle.dps_process.specs.Process.{Process, test, bind, put}
+use Rattle.dps_process.specs.Steps.{Action, silent, Moves}
+use Rattle.dps_process.specs.declared.examples.Branching.{Branching}
+use Rattle.dps_process.specs.declared.examples.Branching.TheVariants.{SameNames, DifferentNames, SameFailure, SameValue, BoundValue, BoundFailure}
+
+-- the process with p as its first branch and q as its second
+abbrev pub process_of : Branching → Process → Process → Process
+process_of SameNames p q = test a a p q
+process_of DifferentNames p q = test a b p q
+process_of SameFailure p q = test (over sdec a b) (over sdec a b) p q
+process_of SameValue p q = test (over sdec (over senc a b) b) a p q
+process_of BoundValue p q = bind 1 (over sdec (over senc a b) b) p q
+process_of BoundFailure p q = bind 1 (over sdec a b) p q
+
+-- what is run of the first branch: a binding puts its value there
+abbrev pub first_branch : Branching → Process → Process
+first_branch BoundValue p = put 1 a p
+first_branch BoundFailure p = put 1 a p
+first_branch t p = p
+
+-- the process goes on silently as r, and in no other way
+pub record GoesOnAs (frame : List Tree) (p r : Process) : Type 0 where
+  pub goes : Moves signature theory frame p silent (r ∷ []) []
+  pub alone : (action : Action) (become : List Process) (added : List Tree) → Moves signature theory frame p action become added → (action ≡ silent) × (become ≡ r ∷ []) × (added ≡ [])
+
+-- whatever the branches are, the first is taken
+abbrev pub TakesFirst : Branching → Type 0
+TakesFirst t = (frame : List Tree) (p q : Process) → GoesOnAs frame (process_of t p q) (first_branch t p)
+
+-- whatever the branches are, the second is taken
+abbrev pub TakesSecond : Branching → Type 0
+TakesSecond t = (frame : List Tree) (p q : Process) → GoesOnAs frame (process_of t p q) q

@@ -1,0 +1,86 @@
+-- What a reader expects of steps, traces and equivalence, each stated as one fact.
+use Rattle.std.specs.Prelude.{◌≡◌, ◌⊎◌, ℕ, ◌<◌, ◌+◌, List, [], ◌∷◌, ◌++◌}
+use Rattle.dps_branch.specs.declared.Side.{Side}
+use Rattle.dps_branch.specs.Sides.{opposite}
+use Rattle.dps_terms.specs.Tree.{Tree}
+use Rattle.dps_terms.specs.Signature.{Signature}
+use Rattle.dps_theory.specs.Theory.{Theory}
+use Rattle.dps_process.specs.Process.{Process, process_nodes, IsClosed, put}
+use Rattle.dps_process.specs.Problem.{Problem, process_of}
+use Rattle.dps_process.specs.Steps.{Config, Label, Action, Step, AreOneBag}
+use Rattle.dps_process.specs.Traces.{Runs, Ends, IsTrace, Matches, AreTraceEquivalent, IsEquivalent, IsTraceOf, IsAttack}
+
+-- being one bag is an equivalence
+abbrev pub BagsReflexive : Type 0
+BagsReflexive = (c : Config) → AreOneBag c c
+
+abbrev pub BagsSymmetric : Type 0
+BagsSymmetric = (c d : Config) → AreOneBag c d → AreOneBag d c
+
+abbrev pub BagsTransitive : Type 0
+BagsTransitive = (c d e : Config) → AreOneBag c d → AreOneBag d e → AreOneBag c e
+
+-- the order of the parts matters to no run
+abbrev pub OrderIsUnseen : Type 0
+OrderIsUnseen =
+    (signature : Signature) (theory : Theory) (c d : Config) (word : List Label) (frame : List Tree)
+    → AreOneBag c d
+    → Ends signature theory c word frame
+    → Ends signature theory d word frame
+
+-- the process nodes of a configuration
+abbrev pub part_nodes : List Process → ℕ
+part_nodes [] = 0
+part_nodes (p ∷ ps) = process_nodes p + part_nodes ps
+
+-- each step uses up a process node, so each list of steps is finite
+abbrev pub StepsUseUp : Type 0
+StepsUseUp =
+    (signature : Signature) (theory : Theory) (c d : Config) (action : Action)
+    → Step signature theory c action d
+    → part_nodes d.parts < part_nodes c.parts
+
+-- a run only adds to the frame
+abbrev pub FramesGrow : Type 0
+FramesGrow =
+    (signature : Signature) (theory : Theory) (c d : Config) (word : List Label)
+    → Runs signature theory c word d
+    → (added : List Tree) × (d.frame ≡ c.frame ++ added)
+
+-- a closed process has no variable to put a term for
+abbrev pub ClosedStays : Type 0
+ClosedStays = (x : ℕ) (t : Tree) (p : Process) → IsClosed p → put x t p ≡ p
+
+-- trace equivalence is an equivalence
+abbrev pub TracesReflexive : Type 0
+TracesReflexive = (signature : Signature) (theory : Theory) (p : Process) → AreTraceEquivalent signature theory p p
+
+abbrev pub TracesSymmetric : Type 0
+TracesSymmetric =
+    (signature : Signature) (theory : Theory) (p q : Process)
+    → AreTraceEquivalent signature theory p q → AreTraceEquivalent signature theory q p
+
+abbrev pub TracesTransitive : Type 0
+TracesTransitive =
+    (signature : Signature) (theory : Theory) (p q r : Process)
+    → AreTraceEquivalent signature theory p q → AreTraceEquivalent signature theory q r → AreTraceEquivalent signature theory p r
+
+-- an attack refutes equivalence
+abbrev pub AttackRefutes : Type 0
+AttackRefutes = (problem : Problem) (side : Side) (word : List Label) → IsAttack problem side word → ¬ IsEquivalent problem
+
+-- for each trace of either side it is decided whether the other side matches it
+abbrev pub IsDecided : Problem → Type 0
+IsDecided problem =
+    (side : Side) (word : List Label) (frame : List Tree)
+    → IsTraceOf problem side word frame
+    → Matches problem.signature problem.theory (process_of problem (opposite side)) word frame
+    ⊎ ¬ Matches problem.signature problem.theory (process_of problem (opposite side)) word frame
+
+-- where that is decided and there is no attack of either side, the sides are equivalent
+abbrev pub NoAttackIsEquivalence : Type 0
+NoAttackIsEquivalence =
+    (problem : Problem)
+    → IsDecided problem
+    → ((side : Side) (word : List Label) → ¬ IsAttack problem side word)
+    → IsEquivalent problem

@@ -1,0 +1,6 @@
+pub mod Process
+pub mod Problem
+pub mod Steps
+pub mod Traces
+pub mod Laws
+pub mod Examples

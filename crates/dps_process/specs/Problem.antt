@@ -1,0 +1,59 @@
+-- Problems: two processes over a signature and a theory.
+use Rattle.std.specs.Prelude.{◌≡◌, ℕ, ◌+◌, ◌<◌, ◌≤◌, ◌^◌, List, length, Option, Some, None, slice_get}
+use Rattle.dps_branch.specs.declared.Side.{Side}
+use Rattle.dps_branch.specs.declared.Side.TheVariants.{Left, Right}
+use Rattle.dps_terms.specs.declared.Sym.{Sym}
+use Rattle.dps_terms.specs.declared.SymKind.{SymKind}
+use Rattle.dps_terms.specs.declared.SymKind.TheVariants.{Constructor, Destructor}
+use Rattle.dps_terms.specs.Tree.{Tree, Trees, leaf, app, none, more}
+use Rattle.dps_terms.specs.Signature.{Signature, Shape, shapes}
+use Rattle.dps_terms.specs.Kinds.{IsOver, IsProcessTerm}
+use Rattle.dps_theory.specs.Theory.{Rule, Theory, HasRule, IsAccepted, HasPlainRules}
+use Rattle.dps_process.specs.Process.{Process, IsClosed, EachTerm, EachChannel, size, term_sum}
+
+pub record Problem : Type 0 where
+  pub signature : Signature
+  pub theory : Theory
+  pub left : Process
+  pub right : Process
+
+-- the process of a side
+abbrev pub process_of : Problem → Side → Process
+process_of problem Left = problem.left
+process_of problem Right = problem.right
+
+-- how many destructors stand in a term
+abbrev pub as_destructor : SymKind → ℕ
+as_destructor Destructor = 1
+as_destructor Constructor = 0
+
+abbrev pub shape_destructor : Option Shape → ℕ
+shape_destructor (Some shape) = as_destructor shape.kind
+shape_destructor None = 0
+
+abbrev mutual
+  pub destructors : List Shape → Tree → ℕ
+  destructors known (leaf x) = 0
+  destructors known (app f ts) = shape_destructor (slice_get known f.number) + destructors_of known ts
+
+  pub destructors_of : List Shape → Trees → ℕ
+  destructors_of known none = 0
+  destructors_of known (more t ts) = destructors known t + destructors_of known ts
+
+-- A side that a file may mean: closed, over the signature, with declared channels, and of a bounded size.
+pub record IsLawfulSide (signature : Signature) (p : Process) : Type 0 where
+  pub closed : IsClosed p
+  pub channels : EachChannel (λ c. c < length signature.names) p
+  pub terms : EachTerm (IsProcessTerm signature) p
+  pub small : size p ≤ 2 ^ 20
+  pub few_destructors : term_sum (destructors (shapes signature)) p ≤ 65536
+
+-- A problem that a file may mean. Its theory is accepted, over just the symbols of the signature, and its rules are
+-- written with declared names and variables.
+pub record IsLawful (problem : Problem) : Type 0 where
+  pub same_symbols : problem.theory.shapes ≡ shapes problem.signature
+  pub accepted : IsAccepted problem.theory
+  pub rules_over : (r : Rule) → HasRule problem.theory r → IsOver problem.signature r.left × IsOver problem.signature r.right
+  pub rules_plain : HasPlainRules problem.theory
+  pub left : IsLawfulSide problem.signature problem.left
+  pub right : IsLawfulSide problem.signature problem.right

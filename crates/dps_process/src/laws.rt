@@ -1,0 +1,63 @@
+//! The laws of steps, traces and equivalence. Each function does nothing: its contract is the law.
+ghost use Rattle.dps_process.specs.Laws.{BagsReflexive, BagsSymmetric, BagsTransitive, OrderIsUnseen, StepsUseUp, FramesGrow, ClosedStays, TracesReflexive, TracesSymmetric, TracesTransitive, AttackRefutes, NoAttackIsEquivalence};
+
+/// A configuration is the same bag as itself.
+pub fn bags_reflexive()
+    ensures { BagsReflexive }
+{}
+
+/// Being one bag goes both ways.
+pub fn bags_symmetric()
+    ensures { BagsSymmetric }
+{}
+
+/// Configurations that are one bag with one configuration are one bag.
+pub fn bags_transitive()
+    ensures { BagsTransitive }
+{}
+
+/// The order of the parts matters to no run.
+pub fn order_is_unseen()
+    ensures { OrderIsUnseen }
+{}
+
+/// Each step uses up a process node, so each list of steps is finite.
+pub fn steps_use_up()
+    ensures { StepsUseUp }
+{}
+
+/// A run only adds to the frame.
+pub fn frames_grow()
+    ensures { FramesGrow }
+{}
+
+/// A closed process has no variable to put a term for.
+pub fn closed_stays()
+    ensures { ClosedStays }
+{}
+
+/// A process is equivalent to itself.
+pub fn traces_reflexive()
+    ensures { TracesReflexive }
+{}
+
+/// Trace equivalence goes both ways.
+pub fn traces_symmetric()
+    ensures { TracesSymmetric }
+{}
+
+/// Processes equivalent to one process are equivalent.
+pub fn traces_transitive()
+    ensures { TracesTransitive }
+{}
+
+/// An attack of either side refutes equivalence.
+pub fn attack_refutes()
+    ensures { AttackRefutes }
+{}
+
+/// Where it is decided for each trace whether the other side matches it, and no trace is an attack, the sides are
+/// equivalent.
+pub fn no_attack_is_equivalence()
+    ensures { NoAttackIsEquivalence }
+{}
