@@ -3,3 +3,4 @@ pub mod Substituting
 pub mod Running
 pub mod Tracing
 pub mod Branches
+pub mod Outputs

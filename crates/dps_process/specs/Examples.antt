@@ -1,9 +1,14 @@
--- Small tests and bindings, over the signature and the theory of symmetric encryption.
+-- Small processes, over the signature and the theory of symmetric encryption.
 use Rattle.std.specs.Prelude.{◌≡◌, List, [], ◌∷◌}
 use Rattle.dps_terms.specs.Tree.{Tree}
-use Rattle.dps_theory.specs.Examples.{signature, theory, over, senc, sdec, a, b}
-use Rattle.dps_process.specs.Process.{Process, test, bind, put}
-use Rattle.dps_process.specs.Steps.{Action, silent, Moves}
+use Rattle.dps_theory.specs.Examples.{signature, theory, over, senc, sdec, a, b, k, n}
+use Rattle.dps_process.specs.Process.{Process, nil, test, bind, output, put}
+use Rattle.dps_process.specs.Problem.{Problem}
+use Rattle.dps_process.specs.Steps.{Action, Label, silent, Moves}
+use Rattle.dps_process.specs.Traces.{IsAttack}
+use Rattle.dps_branch.specs.declared.Side.{Side}
+use Rattle.dps_process.specs.declared.examples.OutputPair.{OutputPair}
+use Rattle.dps_process.specs.declared.examples.OutputPair.TheVariants.{PublicNames, PrivateNames}
 use Rattle.dps_process.specs.declared.examples.Branching.{Branching}
 use Rattle.dps_process.specs.declared.examples.Branching.TheVariants.{SameNames, DifferentNames, SameFailure, SameValue, BoundValue, BoundFailure}
 
@@ -34,3 +39,15 @@ TakesFirst t = (frame : List Tree) (p q : Process) → GoesOnAs frame (process_o
 -- whatever the branches are, the second is taken
 abbrev pub TakesSecond : Branching → Type 0
 TakesSecond t = (frame : List Tree) (p q : Process) → GoesOnAs frame (process_of t p q) q
+
+-- one output on the channel a
+abbrev pub two_outputs : Tree → Tree → Problem
+two_outputs t u = record { signature = signature; theory = theory; left = output 0 t nil; right = output 0 u nil }
+
+abbrev pub problem_of : OutputPair → Problem
+problem_of PublicNames = two_outputs a b
+problem_of PrivateNames = two_outputs k n
+
+-- some side has an attack
+abbrev pub IsAttacked : Problem → Type 0
+IsAttacked problem = (side : Side) × (word : List Label) × IsAttack problem side word

@@ -1,6 +1,7 @@
-//! Small tests and bindings with symmetric encryption, and the branch that each takes.
+//! Small processes with symmetric encryption, and what holds of them: each answer is proved.
 ghost use Rattle.std.specs.Prelude.{MatchBool};
-ghost use Rattle.dps_process.specs.Examples.{TakesFirst, TakesSecond};
+ghost use Rattle.dps_process.specs.Traces.{IsEquivalent};
+ghost use Rattle.dps_process.specs.Examples.{TakesFirst, TakesSecond, problem_of, IsAttacked};
 
 /// A process of two branches over the names `a` and `b`.
 #[derive(Clone, Copy, Debug, PartialEq, Eq)]
@@ -30,5 +31,24 @@ pub fn takes_first(branching: Branching) -> bool
         Branching::SameValue => true,
         Branching::BoundValue => true,
         Branching::BoundFailure => false,
+    }
+}
+
+/// Two processes that put out one name on a public channel.
+#[derive(Clone, Copy, Debug, PartialEq, Eq)]
+pub enum OutputPair {
+    /// The public names `a` and `b`.
+    PublicNames,
+    /// Two private names.
+    PrivateNames,
+}
+
+/// Whether the two processes are trace equivalent. If not, one of them has an attack.
+pub fn are_equivalent(pair: OutputPair) -> bool
+    ensures { MatchBool result (IsEquivalent (problem_of pair)) (IsAttacked (problem_of pair)) }
+{
+    match pair {
+        OutputPair::PublicNames => false,
+        OutputPair::PrivateNames => true,
     }
 }
