@@ -5,27 +5,27 @@ use Rattle.dps_theory.specs.Evaluation.{Evaluates, IsMessage, AreEqual, named}
 use Rattle.dps_theory.specs.Examples.{signature, theory, over, senc, sdec, a, b}
 use Rattle.dps_theory.proofs.Evaluating.{evaluates_once}
 use Rattle.dps_theory.proofs.Encryption.{decryption_accepted, opens, no_ciphertext, plain_equal, different_results}
-use Rattle.dps_process.specs.Process.{Process, test, bind, put}
+use Rattle.dps_process.specs.Process.{Process, conditional, bind, put}
 use Rattle.dps_process.specs.Steps.{Action, silent, Moves, passes, fails, binds, binds_not}
-use Rattle.dps_process.specs.Examples.{process_of, first_branch, GoesOnAs, TakesFirst, TakesSecond}
+use Rattle.dps_process.specs.Examples.{branching, first_branch, GoesOnAs, TakesFirst, TakesSecond}
 use Rattle.dps_process.specs.declared.examples.Branching.{Branching}
 use Rattle.dps_process.specs.declared.examples.Branching.TheVariants.{SameNames, DifferentNames, SameFailure, SameValue, BoundValue, BoundFailure}
 
 abbrev IsTaken : Action → List Process → List Tree → Process → Type 0
 IsTaken action become added r = (action ≡ silent) × (become ≡ r ∷ []) × (added ≡ [])
 
-only_first : {u v : Tree} {p q : Process} {frame : List Tree} {action : Action} {become : List Process} {added : List Tree} → AreEqual theory u v → Moves signature theory frame (test u v p q) action become added → IsTaken action become added p
+only_first : {u v : Tree} {p q : Process} {frame : List Tree} {action : Action} {become : List Process} {added : List Tree} → AreEqual theory u v → Moves signature theory frame (conditional u v p q) action become added → IsTaken action become added p
 only_first h (passes k) = (refl, refl, refl)
 only_first h (fails k) = absurd (k h)
 
-only_second : {u v : Tree} {p q : Process} {frame : List Tree} {action : Action} {become : List Process} {added : List Tree} → ¬ AreEqual theory u v → Moves signature theory frame (test u v p q) action become added → IsTaken action become added q
+only_second : {u v : Tree} {p q : Process} {frame : List Tree} {action : Action} {become : List Process} {added : List Tree} → ¬ AreEqual theory u v → Moves signature theory frame (conditional u v p q) action become added → IsTaken action become added q
 only_second h (passes k) = absurd (h k)
 only_second h (fails k) = (refl, refl, refl)
 
-test_first : (u v : Tree) (frame : List Tree) (p q : Process) → AreEqual theory u v → GoesOnAs frame (test u v p q) p
+test_first : (u v : Tree) (frame : List Tree) (p q : Process) → AreEqual theory u v → GoesOnAs frame (conditional u v p q) p
 test_first u v frame p q h = record { goes = passes h; alone = λ action become added m. only_first h m }
 
-test_second : (u v : Tree) (frame : List Tree) (p q : Process) → ¬ AreEqual theory u v → GoesOnAs frame (test u v p q) q
+test_second : (u v : Tree) (frame : List Tree) (p q : Process) → ¬ AreEqual theory u v → GoesOnAs frame (conditional u v p q) q
 test_second u v frame p q h = record { goes = fails h; alone = λ action become added m. only_second h m }
 
 only_bound : {x : ℕ} {u t : Tree} {p q : Process} {frame : List Tree} {action : Action} {become : List Process} {added : List Tree} → Evaluates theory u t → Moves signature theory frame (bind x u p q) action become added → IsTaken action become added (put x t p)

@@ -4,10 +4,9 @@ use Rattle.dps_terms.specs.Tree.{Tree}
 use Rattle.dps_terms.specs.Replace.{variables_to}
 use Rattle.dps_terms.specs.Signature.{Signature}
 use Rattle.dps_theory.specs.Theory.{Theory}
-use Rattle.dps_process.specs.Process.{Process, process_nodes, put, only}
+use Rattle.dps_process.specs.Process.{Process, process_nodes, part_nodes, put, only}
 use Rattle.dps_process.specs.Steps.{Config, Label, Action, Takes, here, there, Moves, ends, splits, first, second, passes, fails, binds, binds_not, receives, sends, Meets, meets, Step, alone, together}
 use Rattle.dps_process.specs.Traces.{Runs, done, silently, visibly}
-use Rattle.dps_process.specs.Laws.{part_nodes}
 use Rattle.dps_process.proofs.Substituting.{process_nodes-replace_in}
 
 process_nodes-put : (x : ℕ) (t : Tree) (p : Process) → process_nodes (put x t p) ≡ process_nodes p

@@ -7,7 +7,7 @@ use Rattle.dps_terms.specs.Tree.{Leaf, public, private, var, ax, entry, rigid, T
 use Rattle.dps_terms.specs.Replace.{replace, variables_to}
 use Rattle.dps_terms.specs.Kinds.{IsNoVariable}
 use Rattle.dps_terms.proofs.Replacing.{replace_stays}
-use Rattle.dps_process.specs.Process.{Process, nil, parallel, choice, test, bind, input, output, but_for, replace_in, only, put, IsFree, IsClosed, process_nodes}
+use Rattle.dps_process.specs.Process.{Process, nil, parallel, choice, conditional, bind, input, output, but_for, replace_in, only, put, IsFree, IsClosedProcess, process_nodes}
 
 -- a replacement leaves the variables that are free in a process, and all that is no variable
 pub record Leaves (f : Leaf → Tree) (Free : ℕ → Type 0) : Type 0 where
@@ -58,9 +58,9 @@ replace_in_stays f (parallel p q) h =
     λ i. parallel (replace_in_stays f p (fewer f (free_in (parallel p q)) (free_in p) (λ x l. inl l) h) i) (replace_in_stays f q (fewer f (free_in (parallel p q)) (free_in q) (λ x l. inr l) h) i)
 replace_in_stays f (choice p q) h =
     λ i. choice (replace_in_stays f p (fewer f (free_in (choice p q)) (free_in p) (λ x l. inl l) h) i) (replace_in_stays f q (fewer f (free_in (choice p q)) (free_in q) (λ x l. inr l) h) i)
-replace_in_stays f (test u v p q) h =
-    let Free : ℕ → Type 0 = free_in (test u v p q) in
-    λ i. test (term_left f Free u h (λ x s. inl (inl s)) i) (term_left f Free v h (λ x s. inl (inr s)) i) (replace_in_stays f p (fewer f Free (free_in p) (λ x l. inr (inl l)) h) i) (replace_in_stays f q (fewer f Free (free_in q) (λ x l. inr (inr l)) h) i)
+replace_in_stays f (conditional u v p q) h =
+    let Free : ℕ → Type 0 = free_in (conditional u v p q) in
+    λ i. conditional (term_left f Free u h (λ x s. inl (inl s)) i) (term_left f Free v h (λ x s. inl (inr s)) i) (replace_in_stays f p (fewer f Free (free_in p) (λ x l. inr (inl l)) h) i) (replace_in_stays f q (fewer f Free (free_in q) (λ x l. inr (inr l)) h) i)
 replace_in_stays f (bind y u p q) h =
     let Free : ℕ → Type 0 = free_in (bind y u p q) in
     λ i. bind y (term_left f Free u h (λ x s. inl s) i) (replace_in_stays (but_for y f) p (below_binder f Free (free_in p) y (λ x d l. inr (inl (d, l))) h) i) (replace_in_stays f q (fewer f Free (free_in q) (λ x l. inr (inr l)) h) i)
@@ -78,7 +78,7 @@ variables_only z (ax n) h = refl
 variables_only z (entry n) h = refl
 variables_only z (rigid n) h = refl
 
-pub closed_stays : (x : ℕ) (t : Tree) (p : Process) → IsClosed p → put x t p ≡ p
+pub closed_stays : (x : ℕ) (t : Tree) (p : Process) → IsClosedProcess p → put x t p ≡ p
 closed_stays x t p h =
     replace_in_stays (variables_to (only x t)) p (record { variables = λ y l. absurd (h y l); others = variables_only (only x t) })
 
@@ -87,7 +87,7 @@ pub process_nodes-replace_in : (f : Leaf → Tree) (p : Process) → process_nod
 process_nodes-replace_in f nil = refl
 process_nodes-replace_in f (parallel p q) = λ i. 1 + process_nodes-replace_in f p i + process_nodes-replace_in f q i
 process_nodes-replace_in f (choice p q) = λ i. 1 + process_nodes-replace_in f p i + process_nodes-replace_in f q i
-process_nodes-replace_in f (test u v p q) = λ i. 1 + process_nodes-replace_in f p i + process_nodes-replace_in f q i
+process_nodes-replace_in f (conditional u v p q) = λ i. 1 + process_nodes-replace_in f p i + process_nodes-replace_in f q i
 process_nodes-replace_in f (bind x u p q) = λ i. 1 + process_nodes-replace_in (but_for x f) p i + process_nodes-replace_in f q i
 process_nodes-replace_in f (input c x p) = λ i. 1 + process_nodes-replace_in (but_for x f) p i
 process_nodes-replace_in f (output c u p) = λ i. 1 + process_nodes-replace_in f p i

@@ -1,6 +1,6 @@
 -- Trace equivalence is an equivalence, and attacks are what refutes it.
 use Rattle.std.proofs.Common.{◌≡◌, List, refl, inl, inr}
-use Rattle.std.specs.Prelude.{◌⊎◌}
+use Rattle.std.specs.Prelude.{◌⊎◌, ◌↔◌}
 use Rattle.dps_branch.specs.declared.Side.{Side}
 use Rattle.dps_branch.specs.declared.Side.TheVariants.{Left, Right}
 use Rattle.dps_branch.specs.Sides.{opposite}
@@ -9,7 +9,7 @@ use Rattle.dps_terms.specs.Signature.{Signature}
 use Rattle.dps_theory.specs.Theory.{Theory}
 use Rattle.dps_theory.proofs.Equivalence.{reflexive, transitive}
 use Rattle.dps_process.specs.Process.{Process}
-use Rattle.dps_process.specs.Problem.{Problem, process_of}
+use Rattle.dps_process.specs.Problem.{Problem, side_of}
 use Rattle.dps_process.specs.Steps.{Label}
 use Rattle.dps_process.specs.Traces.{IsTrace, Matches, IsIncluded, AreTraceEquivalent, IsEquivalent, IsTraceOf, IsAttack}
 use Rattle.dps_process.specs.Laws.{IsDecided}
@@ -40,7 +40,7 @@ attack_refutes problem Left word a e = a.unmatched (e.forth.matched word a.frame
 attack_refutes problem Right word a e = a.unmatched (e.back.matched word a.frame a.trace)
 
 module _ (problem : Problem) (decided : IsDecided problem) (none : (side : Side) (word : List Label) → ¬ IsAttack problem side word) where
-  side_matched : (side : Side) (word : List Label) (frame : List Tree) → IsTraceOf problem side word frame → Matches problem.signature problem.theory (process_of problem (opposite side)) word frame
+  side_matched : (side : Side) (word : List Label) (frame : List Tree) → IsTraceOf problem side word frame → Matches problem.signature problem.theory (side_of problem (opposite side)) word frame
   side_matched side word frame t =
       elim (decided side word frame t) [ inl m ↦ m | inr n ↦ absurd (none side word (record { frame = frame; trace = t; unmatched = n })) ]
 
@@ -49,3 +49,8 @@ module _ (problem : Problem) (decided : IsDecided problem) (none : (side : Side)
     forth = record { matched = side_matched Left };
     back = record { matched = side_matched Right };
   }
+
+pub none_unmatched : (problem : Problem)
+    → ((side : Side) (word : List Label) → ¬ IsAttack problem side word)
+    ↔ ((side : Side) (word : List Label) (frame : List Tree) → IsTraceOf problem side word frame → ¬ (¬ Matches problem.signature problem.theory (side_of problem (opposite side)) word frame))
+none_unmatched problem = (λ none side word frame t m. none side word (record { frame = frame; trace = t; unmatched = m }), λ h side word a. h side word a.frame a.trace a.unmatched)

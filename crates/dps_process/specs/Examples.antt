@@ -2,7 +2,7 @@
 use Rattle.std.specs.Prelude.{◌≡◌, List, [], ◌∷◌}
 use Rattle.dps_terms.specs.Tree.{Tree}
 use Rattle.dps_theory.specs.Examples.{signature, theory, over, senc, sdec, a, b, k, n}
-use Rattle.dps_process.specs.Process.{Process, nil, test, bind, output, put}
+use Rattle.dps_process.specs.Process.{Process, nil, conditional, bind, output, put}
 use Rattle.dps_process.specs.Problem.{Problem}
 use Rattle.dps_process.specs.Steps.{Action, Label, silent, Moves}
 use Rattle.dps_process.specs.Traces.{IsAttack}
@@ -13,13 +13,13 @@ use Rattle.dps_process.specs.declared.examples.Branching.{Branching}
 use Rattle.dps_process.specs.declared.examples.Branching.TheVariants.{SameNames, DifferentNames, SameFailure, SameValue, BoundValue, BoundFailure}
 
 -- the process with p as its first branch and q as its second
-abbrev pub process_of : Branching → Process → Process → Process
-process_of SameNames p q = test a a p q
-process_of DifferentNames p q = test a b p q
-process_of SameFailure p q = test (over sdec a b) (over sdec a b) p q
-process_of SameValue p q = test (over sdec (over senc a b) b) a p q
-process_of BoundValue p q = bind 1 (over sdec (over senc a b) b) p q
-process_of BoundFailure p q = bind 1 (over sdec a b) p q
+abbrev pub branching : Branching → Process → Process → Process
+branching SameNames p q = conditional a a p q
+branching DifferentNames p q = conditional a b p q
+branching SameFailure p q = conditional (over sdec a b) (over sdec a b) p q
+branching SameValue p q = conditional (over sdec (over senc a b) b) a p q
+branching BoundValue p q = bind 1 (over sdec (over senc a b) b) p q
+branching BoundFailure p q = bind 1 (over sdec a b) p q
 
 -- what is run of the first branch: a binding puts its value there
 abbrev pub first_branch : Branching → Process → Process
@@ -34,11 +34,11 @@ pub record GoesOnAs (frame : List Tree) (p r : Process) : Type 0 where
 
 -- whatever the branches are, the first is taken
 abbrev pub TakesFirst : Branching → Type 0
-TakesFirst t = (frame : List Tree) (p q : Process) → GoesOnAs frame (process_of t p q) (first_branch t p)
+TakesFirst t = (frame : List Tree) (p q : Process) → GoesOnAs frame (branching t p q) (first_branch t p)
 
 -- whatever the branches are, the second is taken
 abbrev pub TakesSecond : Branching → Type 0
-TakesSecond t = (frame : List Tree) (p q : Process) → GoesOnAs frame (process_of t p q) q
+TakesSecond t = (frame : List Tree) (p q : Process) → GoesOnAs frame (branching t p q) q
 
 -- one output on the channel a
 abbrev pub two_outputs : Tree → Tree → Problem

@@ -1,12 +1,12 @@
 -- What a reader expects of steps, traces and equivalence, each stated as one fact.
-use Rattle.std.specs.Prelude.{◌≡◌, ◌⊎◌, ℕ, ◌<◌, ◌+◌, List, [], ◌∷◌, ◌++◌}
+use Rattle.std.specs.Prelude.{◌≡◌, ◌⊎◌, ◌↔◌, ℕ, ◌<◌, List, ◌++◌}
 use Rattle.dps_branch.specs.declared.Side.{Side}
 use Rattle.dps_branch.specs.Sides.{opposite}
 use Rattle.dps_terms.specs.Tree.{Tree}
 use Rattle.dps_terms.specs.Signature.{Signature}
 use Rattle.dps_theory.specs.Theory.{Theory}
-use Rattle.dps_process.specs.Process.{Process, process_nodes, IsClosed, put}
-use Rattle.dps_process.specs.Problem.{Problem, process_of}
+use Rattle.dps_process.specs.Process.{Process, part_nodes, IsClosedProcess, put}
+use Rattle.dps_process.specs.Problem.{Problem, side_of}
 use Rattle.dps_process.specs.Steps.{Config, Label, Action, Step, AreOneBag}
 use Rattle.dps_process.specs.Traces.{Runs, Ends, IsTrace, Matches, AreTraceEquivalent, IsEquivalent, IsTraceOf, IsAttack}
 
@@ -28,11 +28,6 @@ OrderIsUnseen =
     → Ends signature theory c word frame
     → Ends signature theory d word frame
 
--- the process nodes of a configuration
-abbrev pub part_nodes : List Process → ℕ
-part_nodes [] = 0
-part_nodes (p ∷ ps) = process_nodes p + part_nodes ps
-
 -- each step uses up a process node, so each list of steps is finite
 abbrev pub StepsUseUp : Type 0
 StepsUseUp =
@@ -48,8 +43,8 @@ FramesGrow =
     → (added : List Tree) × (d.frame ≡ c.frame ++ added)
 
 -- a closed process has no variable to put a term for
-abbrev pub ClosedStays : Type 0
-ClosedStays = (x : ℕ) (t : Tree) (p : Process) → IsClosed p → put x t p ≡ p
+abbrev pub ClosedProcessStays : Type 0
+ClosedProcessStays = (x : ℕ) (t : Tree) (p : Process) → IsClosedProcess p → put x t p ≡ p
 
 -- trace equivalence is an equivalence
 abbrev pub TracesReflexive : Type 0
@@ -69,13 +64,22 @@ TracesTransitive =
 abbrev pub AttackRefutes : Type 0
 AttackRefutes = (problem : Problem) (side : Side) (word : List Label) → IsAttack problem side word → ¬ IsEquivalent problem
 
+-- there is no attack of either side exactly where no trace of either side is unmatched
+abbrev pub NoAttackLeavesNoneUnmatched : Type 0
+NoAttackLeavesNoneUnmatched =
+    (problem : Problem)
+    → ((side : Side) (word : List Label) → ¬ IsAttack problem side word)
+    ↔ ((side : Side) (word : List Label) (frame : List Tree)
+    → IsTraceOf problem side word frame
+    → ¬ (¬ Matches problem.signature problem.theory (side_of problem (opposite side)) word frame))
+
 -- for each trace of either side it is decided whether the other side matches it
 abbrev pub IsDecided : Problem → Type 0
 IsDecided problem =
     (side : Side) (word : List Label) (frame : List Tree)
     → IsTraceOf problem side word frame
-    → Matches problem.signature problem.theory (process_of problem (opposite side)) word frame
-    ⊎ ¬ Matches problem.signature problem.theory (process_of problem (opposite side)) word frame
+    → Matches problem.signature problem.theory (side_of problem (opposite side)) word frame
+    ⊎ ¬ Matches problem.signature problem.theory (side_of problem (opposite side)) word frame
 
 -- where that is decided and there is no attack of either side, the sides are equivalent
 abbrev pub NoAttackIsEquivalence : Type 0

@@ -7,9 +7,9 @@ use Rattle.dps_terms.specs.declared.SymKind.{SymKind}
 use Rattle.dps_terms.specs.declared.SymKind.TheVariants.{Constructor, Destructor}
 use Rattle.dps_terms.specs.Tree.{Tree, Trees, leaf, app, none, more}
 use Rattle.dps_terms.specs.Signature.{Signature, Shape, shapes}
-use Rattle.dps_terms.specs.Kinds.{IsOver, IsProcessTerm}
+use Rattle.dps_terms.specs.Kinds.{IsOver, IsSourceTerm}
 use Rattle.dps_theory.specs.Theory.{Rule, Theory, HasRule, IsAccepted, HasPlainRules}
-use Rattle.dps_process.specs.Process.{Process, IsClosed, EachTerm, EachChannel, size, term_sum}
+use Rattle.dps_process.specs.Process.{Process, IsClosedProcess, EachTerm, EachChannel, EachBinder, size, term_sum}
 
 pub record Problem : Type 0 where
   pub signature : Signature
@@ -18,9 +18,9 @@ pub record Problem : Type 0 where
   pub right : Process
 
 -- the process of a side
-abbrev pub process_of : Problem → Side → Process
-process_of problem Left = problem.left
-process_of problem Right = problem.right
+abbrev pub side_of : Problem → Side → Process
+side_of problem Left = problem.left
+side_of problem Right = problem.right
 
 -- how many destructors stand in a term
 abbrev pub as_destructor : SymKind → ℕ
@@ -42,9 +42,9 @@ abbrev mutual
 
 -- A side that a file may mean: closed, over the signature, with declared channels, and of a bounded size.
 pub record IsLawfulSide (signature : Signature) (p : Process) : Type 0 where
-  pub closed : IsClosed p
+  pub closed : IsClosedProcess p
   pub channels : EachChannel (λ c. c < length signature.names) p
-  pub terms : EachTerm (IsProcessTerm signature) p
+  pub terms : EachTerm (IsSourceTerm signature) p
   pub small : size p ≤ 2 ^ 20
   pub few_destructors : term_sum (destructors (shapes signature)) p ≤ 65536
 
@@ -57,3 +57,9 @@ pub record IsLawful (problem : Problem) : Type 0 where
   pub rules_plain : HasPlainRules problem.theory
   pub left : IsLawfulSide problem.signature problem.left
   pub right : IsLawfulSide problem.signature problem.right
+
+-- Each bound variable has a number of at least 2^63. Below it stand the variables that are put for what the attacker
+-- sends, so that no binder captures them.
+pub record HasHighBinders (problem : Problem) : Type 0 where
+  pub left : EachBinder (λ x. 2 ^ 63 ≤ x) problem.left
+  pub right : EachBinder (λ x. 2 ^ 63 ≤ x) problem.right

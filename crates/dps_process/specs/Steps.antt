@@ -6,7 +6,7 @@ use Rattle.dps_terms.specs.Kinds.{IsRecipe}
 use Rattle.dps_theory.specs.Theory.{Theory}
 use Rattle.dps_theory.specs.Evaluation.{Evaluates, IsMessage, AreEqual}
 use Rattle.dps_theory.specs.Frames.{HasValue}
-use Rattle.dps_process.specs.Process.{Process, nil, parallel, choice, test, bind, input, output, put}
+use Rattle.dps_process.specs.Process.{Process, nil, parallel, choice, conditional, bind, input, output, put}
 
 -- the parts that run side by side, and what they have put out
 pub record Config : Type 0 where
@@ -41,8 +41,8 @@ pub data Moves (signature : Signature) (theory : Theory) (frame : List Tree) : P
   first : {p q : Process} → Moves signature theory frame (choice p q) silent (p ∷ []) []
   second : {p q : Process} → Moves signature theory frame (choice p q) silent (q ∷ []) []
   -- a test passes where both terms evaluate to one value, and fails where they do not
-  passes : {u v : Tree} {p q : Process} → AreEqual theory u v → Moves signature theory frame (test u v p q) silent (p ∷ []) []
-  fails : {u v : Tree} {p q : Process} → ¬ AreEqual theory u v → Moves signature theory frame (test u v p q) silent (q ∷ []) []
+  passes : {u v : Tree} {p q : Process} → AreEqual theory u v → Moves signature theory frame (conditional u v p q) silent (p ∷ []) []
+  fails : {u v : Tree} {p q : Process} → ¬ AreEqual theory u v → Moves signature theory frame (conditional u v p q) silent (q ∷ []) []
   -- a binding takes the term's value, or the other branch where it has none
   binds : {x : ℕ} {u t : Tree} {p q : Process} → Evaluates theory u t → Moves signature theory frame (bind x u p q) silent (put x t p ∷ []) []
   binds_not : {x : ℕ} {u : Tree} {p q : Process} → ¬ IsMessage theory u → Moves signature theory frame (bind x u p q) silent (q ∷ []) []

@@ -8,7 +8,7 @@ use Rattle.dps_terms.specs.Signature.{Signature}
 use Rattle.dps_theory.specs.Theory.{Theory}
 use Rattle.dps_theory.specs.Frames.{AreStaticallyEquivalent}
 use Rattle.dps_process.specs.Process.{Process}
-use Rattle.dps_process.specs.Problem.{Problem, process_of}
+use Rattle.dps_process.specs.Problem.{Problem, side_of}
 use Rattle.dps_process.specs.Steps.{Config, start, Label, Action, silent, shows, Step}
 
 -- a list of steps with these labels, the silent steps left out
@@ -46,11 +46,11 @@ IsEquivalent problem = AreTraceEquivalent problem.signature problem.theory probl
 
 -- a trace of one side of a problem
 abbrev pub IsTraceOf : Problem → Side → List Label → List Tree → Type 0
-IsTraceOf problem side word frame = IsTrace problem.signature problem.theory (process_of problem side) word frame
+IsTraceOf problem side word frame = IsTrace problem.signature problem.theory (side_of problem side) word frame
 
 -- What `not equivalent` says of a problem, a side and labels: some trace of the side with these labels is matched by no
 -- trace of the other.
 pub record IsAttack (problem : Problem) (side : Side) (word : List Label) : Type 0 where
   pub frame : List Tree
   pub trace : IsTraceOf problem side word frame
-  pub unmatched : ¬ Matches problem.signature problem.theory (process_of problem (opposite side)) word frame
+  pub unmatched : ¬ Matches problem.signature problem.theory (side_of problem (opposite side)) word frame

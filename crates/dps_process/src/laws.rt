@@ -1,5 +1,5 @@
 //! The laws of steps, traces and equivalence. Each function does nothing: its contract is the law.
-ghost use Rattle.dps_process.specs.Laws.{BagsReflexive, BagsSymmetric, BagsTransitive, OrderIsUnseen, StepsUseUp, FramesGrow, ClosedStays, TracesReflexive, TracesSymmetric, TracesTransitive, AttackRefutes, NoAttackIsEquivalence};
+ghost use Rattle.dps_process.specs.Laws.{BagsReflexive, BagsSymmetric, BagsTransitive, OrderIsUnseen, StepsUseUp, FramesGrow, ClosedProcessStays, TracesReflexive, TracesSymmetric, TracesTransitive, AttackRefutes, NoAttackLeavesNoneUnmatched, NoAttackIsEquivalence};
 
 /// A configuration is the same bag as itself.
 pub fn bags_reflexive()
@@ -32,8 +32,8 @@ pub fn frames_grow()
 {}
 
 /// A closed process has no variable to put a term for.
-pub fn closed_stays()
-    ensures { ClosedStays }
+pub fn closed_process_stays()
+    ensures { ClosedProcessStays }
 {}
 
 /// A process is equivalent to itself.
@@ -54,6 +54,11 @@ pub fn traces_transitive()
 /// An attack of either side refutes equivalence.
 pub fn attack_refutes()
     ensures { AttackRefutes }
+{}
+
+/// There is no attack exactly where no trace of either side is unmatched.
+pub fn no_attack_leaves_none_unmatched()
+    ensures { NoAttackLeavesNoneUnmatched }
 {}
 
 /// Where it is decided for each trace whether the other side matches it, and no trace is an attack, the sides are

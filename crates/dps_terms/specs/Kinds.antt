@@ -62,17 +62,21 @@ IsConstructorTerm known t = IsBuiltOf AnyLeaf (HasShape known Constructor) t
 abbrev pub AreConstructorTerms : List Shape → Trees → Type 0
 AreConstructorTerms known ts = AreBuiltOf AnyLeaf (HasShape known Constructor) ts
 
--- a value, which is what evaluation gives: constructors over public and private names
-abbrev pub IsValueLeaf : Leaf → Type 0
-IsValueLeaf (public n) = ⊤
-IsValueLeaf (private n) = ⊤
-IsValueLeaf (var n) = ⊥
-IsValueLeaf (ax n) = ⊥
-IsValueLeaf (entry n) = ⊥
-IsValueLeaf (rigid n) = ⊥
+-- of constructors over names: what evaluates to itself
+abbrev pub IsPlain : List Shape → Tree → Type 0
+IsPlain known t = IsBuiltOf IsName (HasShape known Constructor) t
 
-abbrev pub IsValue : List Shape → Tree → Type 0
-IsValue known t = IsBuiltOf IsValueLeaf (HasShape known Constructor) t
+-- a message of a frame: constructors over public and private names
+abbrev pub IsFrameLeaf : Leaf → Type 0
+IsFrameLeaf (public n) = ⊤
+IsFrameLeaf (private n) = ⊤
+IsFrameLeaf (var n) = ⊥
+IsFrameLeaf (ax n) = ⊥
+IsFrameLeaf (entry n) = ⊥
+IsFrameLeaf (rigid n) = ⊥
+
+abbrev pub IsFrameMessage : List Shape → Tree → Type 0
+IsFrameMessage known t = IsBuiltOf IsFrameLeaf (HasShape known Constructor) t
 
 -- a recipe over a frame of m messages: any symbols over public names and the handles `ax1` to `axm`
 abbrev pub IsRecipeLeaf : Signature → ℕ → Leaf → Type 0
@@ -86,31 +90,47 @@ IsRecipeLeaf signature m (rigid n) = ⊥
 abbrev pub IsRecipe : Signature → ℕ → Tree → Type 0
 IsRecipe signature m t = IsBuiltOf (IsRecipeLeaf signature m) (HasArity (shapes signature)) t
 
--- a term of a process: any symbols over declared public names, private names and variables
-abbrev pub IsProcessName : Signature → PublicName → Type 0
-IsProcessName signature (Declared n) = IsPublic signature n
-IsProcessName signature (At k) = ⊥
+-- a term as a file writes it: any symbols over declared public names, private names and variables
+abbrev pub IsSourceName : Signature → PublicName → Type 0
+IsSourceName signature (Declared n) = IsPublic signature n
+IsSourceName signature (At k) = ⊥
 
-abbrev pub IsProcessLeaf : Signature → Leaf → Type 0
-IsProcessLeaf signature (public n) = IsProcessName signature n
-IsProcessLeaf signature (private n) = ⊤
-IsProcessLeaf signature (var n) = ⊤
-IsProcessLeaf signature (ax n) = ⊥
-IsProcessLeaf signature (entry n) = ⊥
-IsProcessLeaf signature (rigid n) = ⊥
+abbrev pub IsSourceLeaf : Signature → Leaf → Type 0
+IsSourceLeaf signature (public n) = IsSourceName signature n
+IsSourceLeaf signature (private n) = ⊤
+IsSourceLeaf signature (var n) = ⊤
+IsSourceLeaf signature (ax n) = ⊥
+IsSourceLeaf signature (entry n) = ⊥
+IsSourceLeaf signature (rigid n) = ⊥
 
-abbrev pub IsProcessTerm : Signature → Tree → Type 0
-IsProcessTerm signature t = IsBuiltOf (IsProcessLeaf signature) (HasArity (shapes signature)) t
+abbrev pub IsSourceTerm : Signature → Tree → Type 0
+IsSourceTerm signature t = IsBuiltOf (IsSourceLeaf signature) (HasArity (shapes signature)) t
 
--- a tree of the attacker's knowledge: constructors over public names, variables, rigid names, and entries up to the
--- n-th
-abbrev pub IsKnowledgeLeaf : ℕ → Leaf → Type 0
-IsKnowledgeLeaf n (public a) = ⊤
-IsKnowledgeLeaf n (var x) = ⊤
-IsKnowledgeLeaf n (rigid k) = ⊤
-IsKnowledgeLeaf n (entry i) = (1 ≤ i) × (i ≤ n)
-IsKnowledgeLeaf n (private a) = ⊥
-IsKnowledgeLeaf n (ax j) = ⊥
+-- a term of a part that runs: the same, with what the attacker put in, his own names among it
+abbrev pub IsPartLeaf : Signature → Leaf → Type 0
+IsPartLeaf signature (public n) = IsDeclared signature n
+IsPartLeaf signature (private n) = ⊤
+IsPartLeaf signature (var n) = ⊤
+IsPartLeaf signature (ax n) = ⊥
+IsPartLeaf signature (entry n) = ⊥
+IsPartLeaf signature (rigid n) = ⊥
 
-abbrev pub IsKnowledgeTree : List Shape → ℕ → Tree → Type 0
-IsKnowledgeTree known n t = IsBuiltOf (IsKnowledgeLeaf n) (HasShape known Constructor) t
+abbrev pub IsPartTerm : Signature → Tree → Type 0
+IsPartTerm signature t = IsBuiltOf (IsPartLeaf signature) (HasArity (shapes signature)) t
+
+-- A tree of the attacker's knowledge: symbols that meet S over public names that meet N, variables, rigid names that
+-- meet R, and entries up to the n-th.
+abbrev pub IsKnowledgeLeaf : (PublicName → Type 0) → (ℕ → Type 0) → ℕ → Leaf → Type 0
+IsKnowledgeLeaf N R n (public a) = N a
+IsKnowledgeLeaf N R n (var x) = ⊤
+IsKnowledgeLeaf N R n (rigid k) = R k
+IsKnowledgeLeaf N R n (entry i) = (1 ≤ i) × (i ≤ n)
+IsKnowledgeLeaf N R n (private a) = ⊥
+IsKnowledgeLeaf N R n (ax j) = ⊥
+
+abbrev pub IsKnowledgeTree : (PublicName → Type 0) → (ℕ → Type 0) → (Sym → ℕ → Type 0) → ℕ → Tree → Type 0
+IsKnowledgeTree N R S n t = IsBuiltOf (IsKnowledgeLeaf N R n) S t
+
+-- no rigid name may stand: so it is in the trees that become labels
+abbrev pub NoRigidName : ℕ → Type 0
+NoRigidName k = ⊥

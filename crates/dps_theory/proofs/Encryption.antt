@@ -9,12 +9,11 @@ use Rattle.dps_terms.specs.declared.PublicName.TheVariants.{Declared, At}
 use Rattle.dps_terms.specs.Tree.{Leaf, public, private, var, ax, entry, rigid, Tree, Trees, leaf, app, none, more, count, IsStrictSubterm, itself, below, in_first, in_rest, strictly}
 use Rattle.dps_terms.specs.Replace.{replace, replace_all, in_frame, handles_to, substitute, substitute_all}
 use Rattle.dps_terms.specs.Signature.{HasShape, HasArity, shapes}
-use Rattle.dps_terms.specs.Kinds.{IsRecipe, IsRecipeLeaf, IsBuiltOf, AreBuiltOf, IsDeclared, IsName}
+use Rattle.dps_terms.specs.Kinds.{IsPlain, IsRecipe, IsRecipeLeaf, IsBuiltOf, AreBuiltOf, IsDeclared, IsName}
 use Rattle.dps_terms.proofs.Building.{count-replace_all}
 use Rattle.dps_theory.specs.Theory.{Rule, Theory, HasRule, IsAccepted, HasDestructorRoot, HasConstructorArguments}
 use Rattle.dps_theory.specs.Evaluation.{Evaluates, EvaluateAll, Reduces, named, constructed, reduced, no_terms, a_term, IsMessage, AreEqual}
 use Rattle.dps_theory.specs.Frames.{HasValue, Succeeds, HaveOneValue, AreStaticallyEquivalent, Test, succeeds, equal, IsTest, Separates, AreToldApart}
-use Rattle.dps_theory.specs.Laws.{IsPlain}
 use Rattle.dps_theory.specs.Examples.{senc, sdec, signature, over, decryption, theory, overlapping, a, b, k, n, x, y, told_key}
 use Rattle.dps_theory.proofs.Evaluating.{plain_evaluates, plain_alone, plain_all_alone, one_kind}
 
@@ -94,7 +93,7 @@ first_fails t u ts vs e h (a_term {t = s} {v} r q) =
     let f : s ≡ t = (cc) in h v (subst (λ z. Evaluates theory z v) f r)
 
 -- a decryption of plain terms is a message only where the first is a ciphertext under the second
-pub opened_only : (c key v : Tree) (t : Tree) → IsPlain theory c → IsPlain theory key → t ≡ over sdec c key → Evaluates theory t v → c ≡ over senc v key
+pub opened_only : (c key v : Tree) (t : Tree) → IsPlain theory.shapes c → IsPlain theory.shapes key → t ≡ over sdec c key → Evaluates theory t v → c ≡ over senc v key
 opened_only c key v t p q e (named h) = absurd (cc)
 opened_only c key v t p q e (constructed {f} {ts} h r) =
     let same : app f ts ≡ over sdec c key = e in
@@ -129,7 +128,7 @@ pub below_constructor : ¬ IsMessage theory (over senc (over sdec a b) b)
 below_constructor m = first_evaluates (over sdec a b) b m.0 senc (over senc (over sdec a b) b) refl (λ w e. no_ciphertext (w, e)) m.1
 
 -- two plain terms are equal in a frame only where they are one term
-pub plain_equal : (th : Theory) (t u : Tree) → IsPlain th t → IsPlain th u → AreEqual th t u → t ≡ u
+pub plain_equal : (th : Theory) (t u : Tree) → IsPlain th.shapes t → IsPlain th.shapes u → AreEqual th t u → t ≡ u
 plain_equal th t u p q e = sym (plain_alone th e.left p) ∙ plain_alone th e.right q
 
 different_names : k ≡ n → ⊥
@@ -148,7 +147,7 @@ repetition_told = (
 different_ciphertexts : over senc b k ≡ over senc a k → ⊥
 different_ciphertexts e = let f : Declared 1 ≡ Declared 0 = cc in let g : ◌≡◌ {A = ℕ} 1 0 = cc in omega arith
 
-pub cipher_plain : (c : Tree) → IsPlain theory c → IsPlain theory (over senc c k)
+pub cipher_plain : (c : Tree) → IsPlain theory.shapes c → IsPlain theory.shapes (over senc c k)
 cipher_plain c p = (refl, (p, (tt, tt)))
 
 pub key_told : AreToldApart signature theory (told_key a) (told_key b)

@@ -9,13 +9,12 @@ use Rattle.dps_terms.specs.declared.PublicName.{PublicName}
 use Rattle.dps_terms.specs.Tree.{Leaf, public, private, var, ax, entry, rigid, Tree, Trees, leaf, app, none, more, count, IsSubterm, IsAmong, StandsIn, IsStrictSubterm, itself, below, in_first, in_rest, strictly}
 use Rattle.dps_terms.specs.Replace.{replace, replace_all, substitute, substitute_all, variables_to}
 use Rattle.dps_terms.specs.Signature.{Shape, HasShape}
-use Rattle.dps_terms.specs.Kinds.{IsBuiltOf, AreBuiltOf, IsName, AnyLeaf, AnySymbol, IsNoVariable, IsClosed, IsConstructorTerm}
+use Rattle.dps_terms.specs.Kinds.{IsPlain, IsBuiltOf, AreBuiltOf, IsName, AnyLeaf, AnySymbol, IsNoVariable, IsClosed, IsConstructorTerm}
 use Rattle.dps_terms.proofs.Subterms.{nested, nested_among}
 use Rattle.dps_terms.proofs.Replacing.{keeps_subterms, keeps_among}
 use Rattle.dps_terms.proofs.Building.{leaf_meets, built_among, count-replace_all}
 use Rattle.dps_theory.specs.Theory.{Rule, Theory, HasRule, IsAccepted, HasPlainRules, IsRuleLeaf}
 use Rattle.dps_theory.specs.Evaluation.{Evaluates, EvaluateAll, Reduces, named, constructed, reduced, no_terms, a_term, IsMessage, AreEqual}
-use Rattle.dps_theory.specs.Laws.{IsPlain}
 
 pub one_kind : (shapes : List Shape) (f : Sym) (n m : ℕ) → HasShape shapes Constructor f n → HasShape shapes Destructor f m → ⊥
 one_kind shapes f n m k l =
@@ -44,7 +43,7 @@ module _ (theory : Theory) (accepted : IsAccepted theory) where
 
 module _ (theory : Theory) where
   mutual
-    pub plain_evaluates : (t : Tree) → IsPlain theory t → Evaluates theory t t
+    pub plain_evaluates : (t : Tree) → IsPlain theory.shapes t → Evaluates theory t t
     plain_evaluates (leaf x) p = named p
     plain_evaluates (app f ts) p = constructed p.0 (plain_evaluate ts p.1)
 
@@ -53,7 +52,7 @@ module _ (theory : Theory) where
     plain_evaluate (more t ts) p = a_term (plain_evaluates t p.0) (plain_evaluate ts p.1)
 
   mutual
-    pub plain_alone : {t v : Tree} → Evaluates theory t v → IsPlain theory t → v ≡ t
+    pub plain_alone : {t v : Tree} → Evaluates theory t v → IsPlain theory.shapes t → v ≡ t
     plain_alone (named h) p = refl
     plain_alone (constructed {f} k a) p = ap (app f) (plain_all_alone a p.1)
     plain_alone (reduced {g} {ts} vs k a r) p = absurd (one_kind theory.shapes g (count ts) (count ts) p.0 k)
@@ -69,11 +68,11 @@ module _ (theory : Theory) where
 module _ (theory : Theory) where
   -- an instance of a constructor term is plain where its variables are
   mutual
-    pub instance_plain : (z : ℕ → Tree) (t : Tree) → IsConstructorTerm theory.shapes t → ((x : Leaf) → StandsIn x t → IsPlain theory (variables_to z x)) → IsPlain theory (substitute z t)
+    pub instance_plain : (z : ℕ → Tree) (t : Tree) → IsConstructorTerm theory.shapes t → ((x : Leaf) → StandsIn x t → IsPlain theory.shapes (variables_to z x)) → IsPlain theory.shapes (substitute z t)
     instance_plain z (leaf x) c h = h x itself
     instance_plain z (app f ts) c h = (subst (HasShape theory.shapes Constructor f) (sym (count-replace_all (variables_to z) ts)) c.0, instances_plain z ts c.1 (λ x k. h x (below k)))
 
-    pub instances_plain : (z : ℕ → Tree) (ts : Trees) → AreBuiltOf AnyLeaf (HasShape theory.shapes Constructor) ts → ((x : Leaf) → IsAmong (leaf x) ts → IsPlain theory (variables_to z x)) → AreBuiltOf IsName (HasShape theory.shapes Constructor) (substitute_all z ts)
+    pub instances_plain : (z : ℕ → Tree) (ts : Trees) → AreBuiltOf AnyLeaf (HasShape theory.shapes Constructor) ts → ((x : Leaf) → IsAmong (leaf x) ts → IsPlain theory.shapes (variables_to z x)) → AreBuiltOf IsName (HasShape theory.shapes Constructor) (substitute_all z ts)
     instances_plain z none c h = tt
     instances_plain z (more t ts) c h = (instance_plain z t c.0 (λ x k. h x (in_first k)), instances_plain z ts c.1 (λ x k. h x (in_rest k)))
 
@@ -81,7 +80,7 @@ module _ (theory : Theory) where
   ArePlain vs = AreBuiltOf IsName (HasShape theory.shapes Constructor) vs
 
   -- a variable of the patterns has a plain tree where the patterns' instances are plain
-  bound_plain : (by : ℕ → Tree) (ps vs : Trees) (n : ℕ) → substitute_all by ps ≡ vs → ArePlain vs → IsAmong (leaf (var n)) ps → IsPlain theory (by n)
+  bound_plain : (by : ℕ → Tree) (ps vs : Trees) (n : ℕ) → substitute_all by ps ≡ vs → ArePlain vs → IsAmong (leaf (var n)) ps → IsPlain theory.shapes (by n)
   bound_plain by ps vs n e p k = built_among IsName (HasShape theory.shapes Constructor) p (subst (IsAmong (by n)) e (keeps_among (variables_to by) k))
 
   strict_of_app : (u t : Tree) (g : Sym) (ts : Trees) → t ≡ app g ts → IsStrictSubterm u t → IsAmong u ts
@@ -92,11 +91,11 @@ module _ (theory : Theory) where
 
   module _ (accepted : IsAccepted theory) (plain : HasPlainRules theory) where
     -- what a leaf of the right side becomes
-    right_leaf : (g : Sym) (vs : Trees) (v : Tree) (r : Reduces theory g vs v) → ArePlain vs → (x : Leaf) → StandsIn x r.rule.right → IsPlain theory (variables_to r.by x)
+    right_leaf : (g : Sym) (vs : Trees) (v : Tree) (r : Reduces theory g vs v) → ArePlain vs → (x : Leaf) → StandsIn x r.rule.right → IsPlain theory.shapes (variables_to r.by x)
     right_leaf g vs v r p x k =
         at_leaf x k (leaf_meets IsRuleLeaf AnySymbol (plain.right r.rule r.listed) k) (accepted.bounded r.rule r.listed)
       where
-        at_leaf : (x : Leaf) → StandsIn x r.rule.right → IsRuleLeaf x → IsStrictSubterm r.rule.right r.rule.left ⊎ IsClosed r.rule.right → IsPlain theory (variables_to r.by x)
+        at_leaf : (x : Leaf) → StandsIn x r.rule.right → IsRuleLeaf x → IsStrictSubterm r.rule.right r.rule.left ⊎ IsClosed r.rule.right → IsPlain theory.shapes (variables_to r.by x)
         at_leaf (public n) k h b = tt
         at_leaf (private n) k h b = absurd h
         at_leaf (ax n) k h b = absurd h
@@ -105,12 +104,12 @@ module _ (theory : Theory) where
         at_leaf (var n) k h (inl s) = bound_plain r.by r.patterns vs n r.matched p (nested_among k (strict_of_app r.rule.right r.rule.left g r.patterns r.left s))
         at_leaf (var n) k h (inr c) = absurd (leaf_meets IsNoVariable AnySymbol c k)
 
-    pub reduct_plain : (g : Sym) (vs : Trees) (v : Tree) → Reduces theory g vs v → ArePlain vs → IsPlain theory v
+    pub reduct_plain : (g : Sym) (vs : Trees) (v : Tree) → Reduces theory g vs v → ArePlain vs → IsPlain theory.shapes v
     reduct_plain g vs v r p =
-        subst (IsPlain theory) r.right (instance_plain r.by r.rule.right (accepted.constructed r.rule r.listed) (right_leaf g vs v r p))
+        subst (IsPlain theory.shapes) r.right (instance_plain r.by r.rule.right (accepted.constructed r.rule r.listed) (right_leaf g vs v r p))
 
     mutual
-      pub value_plain : {t v : Tree} → Evaluates theory t v → IsPlain theory v
+      pub value_plain : {t v : Tree} → Evaluates theory t v → IsPlain theory.shapes v
       value_plain (named h) = h
       value_plain (constructed {f} k a) = (subst (HasShape theory.shapes Constructor f) (sym (count-evaluated theory a)) k, values_plain a)
       value_plain (reduced {g} {ts} {v} vs k a r) = reduct_plain g vs v r (values_plain a)

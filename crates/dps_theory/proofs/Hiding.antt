@@ -7,12 +7,11 @@ use Rattle.dps_terms.specs.declared.PublicName.{PublicName}
 use Rattle.dps_terms.specs.Tree.{Leaf, public, private, var, ax, entry, rigid, Tree, Trees, leaf, app, none, more, count}
 use Rattle.dps_terms.specs.Replace.{replace, replace_all, in_frame, handles_to}
 use Rattle.dps_terms.specs.Signature.{HasShape, HasArity, shapes}
-use Rattle.dps_terms.specs.Kinds.{IsRecipe, IsRecipeLeaf, IsBuiltOf, AreBuiltOf}
+use Rattle.dps_terms.specs.Kinds.{IsPlain, IsRecipe, IsRecipeLeaf, IsBuiltOf, AreBuiltOf}
 use Rattle.dps_terms.proofs.Building.{count-replace_all}
 use Rattle.dps_theory.specs.Theory.{Theory}
 use Rattle.dps_theory.specs.Evaluation.{Evaluates, EvaluateAll, Reduces, named, constructed, reduced, no_terms, a_term, IsMessage, AreEqual}
 use Rattle.dps_theory.specs.Frames.{HasValue, Succeeds, HaveOneValue, AreStaticallyEquivalent}
-use Rattle.dps_theory.specs.Laws.{IsPlain}
 use Rattle.dps_theory.specs.Examples.{senc, sdec, signature, over, theory, k, kept_key}
 use Rattle.dps_theory.proofs.Evaluating.{plain_evaluates, plain_alone}
 use Rattle.dps_theory.proofs.Encryption.{Decrypts, decrypts, reduces, cipher_plain}
@@ -95,7 +94,7 @@ first_handle t zero l h = absurd (omega arith)
 first_handle t (suc zero) l h = refl
 first_handle t (suc (suc j)) l h = absurd (omega arith)
 
-module _ (c d : Tree) (pc : IsPlain theory c) (pd : IsPlain theory d) where
+module _ (c d : Tree) (pc : IsPlain theory.shapes c) (pd : IsPlain theory.shapes d) where
   leaf_alike : (x : Leaf) (u : Tree) → IsRecipeLeaf signature 1 x → Evaluates theory (in_frame (kept_key c) (leaf x)) u → HasAlike c d (in_frame (kept_key d) (leaf x)) u
   leaf_alike (public n) u h e = (leaf (public n), named tt, subst (λ t. Alike c d t (leaf (public n))) (sym (plain_alone theory e tt)) told)
   leaf_alike (private n) u h e = absurd h
@@ -159,7 +158,7 @@ module _ (c d : Tree) (pc : IsPlain theory c) (pd : IsPlain theory d) where
       let q = recipe_alike s e.value i e.right in
       record { value = q.0; left = subst (HasValue theory (kept_key d) r) (one_alike c d p.2 q.2) p.1; right = q.1 }
 
-pub kept_key_hides : (c d : Tree) → IsPlain theory c → IsPlain theory d → AreStaticallyEquivalent signature theory (kept_key c) (kept_key d)
+pub kept_key_hides : (c d : Tree) → IsPlain theory.shapes c → IsPlain theory.shapes d → AreStaticallyEquivalent signature theory (kept_key c) (kept_key d)
 kept_key_hides c d pc pd = record {
   same_length = refl;
   same_successes = λ r h. ((λ m. let p = recipe_alike c d pc pd r m.0 h m.1 in (p.0, p.1)), (λ m. let p = recipe_alike d c pd pc r m.0 h m.1 in (p.0, p.1)));

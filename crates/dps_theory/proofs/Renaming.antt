@@ -5,10 +5,11 @@ use Rattle.dps_terms.specs.declared.SymKind.TheVariants.{Constructor, Destructor
 use Rattle.dps_terms.specs.Tree.{Leaf, public, private, var, ax, entry, rigid, Tree, Trees, leaf, app, none, more, count, IsSubterm, IsAmong, StandsIn, below}
 use Rattle.dps_terms.specs.Replace.{replace, replace_all, substitute, substitute_all, variables_to}
 use Rattle.dps_terms.specs.Signature.{HasShape}
-use Rattle.dps_terms.specs.Kinds.{IsName, IsNoVariable}
+use Rattle.dps_terms.specs.Kinds.{AnySymbol, IsName, IsNoVariable}
 use Rattle.dps_terms.proofs.Replacing.{replace_in_turn, replace_all_in_turn, replace_agrees, replace_all_agrees, replace_undone}
-use Rattle.dps_terms.proofs.Building.{count-replace_all}
-use Rattle.dps_theory.specs.Theory.{Theory}
+use Rattle.dps_terms.proofs.Building.{leaf_meets, count-replace_all}
+use Rattle.dps_terms.specs.declared.PublicName.TheVariants.{Declared, At}
+use Rattle.dps_theory.specs.Theory.{Theory, HasPlainRules, IsRuleLeaf}
 use Rattle.dps_theory.specs.Evaluation.{Evaluates, EvaluateAll, Reduces, named, constructed, reduced, no_terms, a_term}
 use Rattle.dps_theory.specs.Laws.{KeepsRules}
 
@@ -63,3 +64,18 @@ pub replaced_reflects :
     → Evaluates theory t (replace back w)
 replaced_reflects theory f back t w keeps names undone e =
     subst (λ u. Evaluates theory u (replace back w)) (replace_undone f back t undone) (replaced_evaluates theory back keeps names e)
+
+kept_leaf : (f : Leaf → Tree) → ((n : ℕ) → f (public (Declared n)) ≡ leaf (public (Declared n))) → (x : Leaf) → IsRuleLeaf x → IsNoVariable x → f x ≡ leaf x
+kept_leaf f h (public (Declared n)) r v = h n
+kept_leaf f h (public (At k)) r v = absurd r
+kept_leaf f h (private n) r v = absurd r
+kept_leaf f h (var n) r v = absurd v
+kept_leaf f h (ax n) r v = absurd r
+kept_leaf f h (entry n) r v = absurd r
+kept_leaf f h (rigid n) r v = absurd r
+
+pub plain_rules_kept : (theory : Theory) (f : Leaf → Tree) → HasPlainRules theory → ((n : ℕ) → f (public (Declared n)) ≡ leaf (public (Declared n))) → KeepsRules theory f
+plain_rules_kept theory f p h = record {
+  left = λ r l x s v. kept_leaf f h x (leaf_meets IsRuleLeaf AnySymbol (p.left r l) s) v;
+  right = λ r l x s v. kept_leaf f h x (leaf_meets IsRuleLeaf AnySymbol (p.right r l) s) v;
+}

@@ -1,14 +1,18 @@
 -- Frames, recipes and static equivalence.
-use Rattle.std.specs.Prelude.{◌≡◌, ◌↔◌, ◌⊎◌, ℕ, List, length}
+use Rattle.std.specs.Prelude.{◌≡◌, ◌↔◌, ◌⊎◌, ℕ, List, length, All}
 use Rattle.dps_terms.specs.Tree.{Tree}
 use Rattle.dps_terms.specs.Replace.{in_frame}
-use Rattle.dps_terms.specs.Signature.{Signature}
-use Rattle.dps_terms.specs.Kinds.{IsRecipe}
+use Rattle.dps_terms.specs.Signature.{Signature, shapes}
+use Rattle.dps_terms.specs.Kinds.{IsFrameMessage, IsOver, IsRecipe}
 use Rattle.dps_theory.specs.Theory.{Theory}
 use Rattle.dps_theory.specs.Evaluation.{Evaluates, IsMessage, AreEqual}
 
--- A frame is the list of the messages `ax1` to `axm` that a process has put out. A recipe over it is a term over the
--- signature whose handles are of the frame (`IsRecipe`): the attacker's way to compute.
+-- A frame is the list of the messages `ax1` to `axm` that a process has put out.
+abbrev pub IsFrame : Signature → List Tree → Type 0
+IsFrame signature frame = All (λ t. IsFrameMessage (shapes signature) t × IsOver signature t) frame
+
+-- A recipe over a frame is a term over the signature whose handles are of the frame (`IsRecipe`): the attacker's way to
+-- compute.
 
 -- the recipe has the value in the frame
 abbrev pub HasValue : Theory → List Tree → Tree → Tree → Type 0

@@ -1,10 +1,10 @@
 -- What a reader expects of evaluation and static equivalence, each stated as one fact.
 use Rattle.std.specs.Prelude.{◌≡◌, ◌↔◌, ℕ, List, take, length}
-use Rattle.dps_terms.specs.declared.SymKind.TheVariants.{Constructor}
-use Rattle.dps_terms.specs.Tree.{Leaf, Tree, Trees, leaf, StandsIn}
+use Rattle.dps_terms.specs.declared.PublicName.TheVariants.{Declared}
+use Rattle.dps_terms.specs.Tree.{Leaf, public, Tree, Trees, leaf, StandsIn}
 use Rattle.dps_terms.specs.Replace.{replace}
-use Rattle.dps_terms.specs.Signature.{Signature, HasShape, shapes}
-use Rattle.dps_terms.specs.Kinds.{IsName, IsNoVariable, IsBuiltOf, IsRecipe}
+use Rattle.dps_terms.specs.Signature.{Signature}
+use Rattle.dps_terms.specs.Kinds.{IsName, IsNoVariable, IsPlain, IsRecipe}
 use Rattle.dps_theory.specs.Theory.{Rule, Theory, HasRule, IsAccepted, HasPlainRules}
 use Rattle.dps_theory.specs.Evaluation.{Evaluates, IsMessage}
 use Rattle.dps_theory.specs.Frames.{HasValue, Succeeds, HaveOneValue, AreStaticallyEquivalent, Test, Separates, AreToldApart}
@@ -13,22 +13,26 @@ use Rattle.dps_theory.specs.Frames.{HasValue, Succeeds, HaveOneValue, AreStatica
 abbrev pub EvaluatesAtMostOnce : Type 0
 EvaluatesAtMostOnce = (theory : Theory) (t v w : Tree) → IsAccepted theory → Evaluates theory t v → Evaluates theory t w → v ≡ w
 
--- of constructors over names, each constructor with its arity
-abbrev pub IsPlain : Theory → Tree → Type 0
-IsPlain theory t = IsBuiltOf IsName (HasShape theory.shapes Constructor) t
-
--- a term without destructors evaluates to itself, and to nothing else
+-- a term of constructors over names evaluates to itself, and to nothing else
 abbrev pub PlainStays : Type 0
-PlainStays = (theory : Theory) (t : Tree) → IsPlain theory t → Evaluates theory t t × ((v : Tree) → Evaluates theory t v → v ≡ t)
+PlainStays = (theory : Theory) (t : Tree) → IsPlain theory.shapes t → Evaluates theory t t × ((v : Tree) → Evaluates theory t v → v ≡ t)
 
--- what a term evaluates to holds no destructor
+-- where the rules hold declared names and variables alone, what a term evaluates to evaluates to itself
 abbrev pub ValuesArePlain : Type 0
-ValuesArePlain = (theory : Theory) (t v : Tree) → IsAccepted theory → HasPlainRules theory → Evaluates theory t v → IsPlain theory v
+ValuesArePlain = (theory : Theory) (t v : Tree) → IsAccepted theory → HasPlainRules theory → Evaluates theory t v → IsPlain theory.shapes v
 
 -- what a replacement leaves of the rules of a theory: each leaf that stands in them and is no variable
 pub record KeepsRules (theory : Theory) (f : Leaf → Tree) : Type 0 where
   pub left : (r : Rule) → HasRule theory r → (x : Leaf) → StandsIn x r.left → IsNoVariable x → f x ≡ leaf x
   pub right : (r : Rule) → HasRule theory r → (x : Leaf) → StandsIn x r.right → IsNoVariable x → f x ≡ leaf x
+
+-- rules of declared names and variables are left by whatever leaves the declared names
+abbrev pub PlainRulesAreKept : Type 0
+PlainRulesAreKept =
+    (theory : Theory) (f : Leaf → Tree)
+    → HasPlainRules theory
+    → ((n : ℕ) → f (public (Declared n)) ≡ leaf (public (Declared n)))
+    → KeepsRules theory f
 
 -- evaluation is kept where names that stand in no rule become terms that evaluate to themselves
 abbrev pub ReplacedNamesEvaluate : Type 0

@@ -13,7 +13,7 @@ pub record Rule : Type 0 where
   pub left : Tree
   pub right : Tree
 
--- the kind and the arity of each symbol, by its number, and the rules, the projections first
+-- the kind and the arity of each symbol, by its number, and the rules
 pub record Theory : Type 0 where
   pub shapes : List Shape
   pub rules : List Rule
@@ -31,6 +31,15 @@ abbrev pub HasConstructorArguments : List Shape → Tree → Type 0
 HasConstructorArguments shapes (leaf x) = ⊤
 HasConstructorArguments shapes (app g ts) = AreConstructorTerms shapes ts
 
+-- the right side is a strict subterm of the left side, or it is ground
+abbrev pub IsBounded : Rule → Type 0
+IsBounded r = IsStrictSubterm r.right r.left ⊎ IsClosed r.right
+
+-- Where instances of the two left sides are equal, so are those of the right sides. The two substitutions are any two,
+-- so that the rules count as renamed apart.
+abbrev pub Agree : Rule → Rule → Type 0
+Agree r q = (y z : ℕ → Tree) → substitute y r.left ≡ substitute z q.left → substitute y r.right ≡ substitute z q.right
+
 -- The theories of the tool: subterm convergent, and without a choice.
 pub record IsAccepted (theory : Theory) : Type 0 where
   -- the left root of each rule is a destructor
@@ -39,13 +48,10 @@ pub record IsAccepted (theory : Theory) : Type 0 where
   pub arguments : (r : Rule) → HasRule theory r → HasConstructorArguments theory.shapes r.left
   -- no right side holds a destructor
   pub constructed : (r : Rule) → HasRule theory r → IsConstructorTerm theory.shapes r.right
-  -- each right side is a strict subterm of its left side, or it is ground
-  pub bounded : (r : Rule) → HasRule theory r → IsStrictSubterm r.right r.left ⊎ IsClosed r.right
-  -- where instances of two left sides are equal, so are those of the right sides: the two substitutions are any two
-  pub agreeing :
-      (r q : Rule) → HasRule theory r → HasRule theory q
-      → (y z : ℕ → Tree) → substitute y r.left ≡ substitute z q.left
-      → substitute y r.right ≡ substitute z q.right
+  -- no right side is more than a part of its left side
+  pub bounded : (r : Rule) → HasRule theory r → IsBounded r
+  -- rules that overlap agree
+  pub agreeing : (r q : Rule) → HasRule theory r → HasRule theory q → Agree r q
 
 -- what a rule of a file is written with: declared names and variables
 abbrev pub IsDeclaredName : PublicName → Type 0

@@ -1,19 +1,24 @@
 //! The laws of evaluation and static equivalence. Each function does nothing: its contract is the law.
-ghost use Rattle.dps_theory.specs.Laws.{EvaluatesAtMostOnce, PlainStays, ValuesArePlain, ReplacedNamesEvaluate, ReplacedNamesReflect, StaticallyReflexive, StaticallySymmetric, StaticallyTransitive, PrefixesStayEquivalent, SeparatedAreNotEquivalent, EquivalenceIsOfValues};
+ghost use Rattle.dps_theory.specs.Laws.{EvaluatesAtMostOnce, PlainStays, ValuesArePlain, PlainRulesAreKept, ReplacedNamesEvaluate, ReplacedNamesReflect, StaticallyReflexive, StaticallySymmetric, StaticallyTransitive, PrefixesStayEquivalent, SeparatedAreNotEquivalent, EquivalenceIsOfValues};
 
 /// Under an accepted theory a term evaluates to at most one value.
 pub fn evaluates_at_most_once()
     ensures { EvaluatesAtMostOnce }
 {}
 
-/// A term without destructors evaluates to itself alone.
+/// A term of constructors over names evaluates to itself alone.
 pub fn plain_stays()
     ensures { PlainStays }
 {}
 
-/// What a term evaluates to holds no destructor.
+/// Where the rules hold declared names and variables alone, what a term evaluates to evaluates to itself.
 pub fn values_are_plain()
     ensures { ValuesArePlain }
+{}
+
+/// Rules of declared names and variables are left by whatever leaves the declared names.
+pub fn plain_rules_are_kept()
+    ensures { PlainRulesAreKept }
 {}
 
 /// Evaluation is kept where names that stand in no rule become terms that evaluate to themselves.
