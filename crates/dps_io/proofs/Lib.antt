@@ -1,0 +1,3 @@
+pub mod HeldLemmas
+pub mod ReadingLemmas
+pub mod WritingLemmas
