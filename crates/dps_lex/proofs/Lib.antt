@@ -1,0 +1,11 @@
+pub mod Classes
+pub mod CommentExamples
+pub mod Comments
+pub mod Fronts
+pub mod Judgement
+pub mod Nesting
+pub mod OneReading
+pub mod Scans
+pub mod SomeReading
+pub mod Spans
+pub mod Values
