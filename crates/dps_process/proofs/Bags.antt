@@ -1,10 +1,10 @@
 -- Bags of parts: reordering is an equivalence, and steps do not see it.
-use Rattle.std.proofs.Common.{◌≡◌, ℕ, List, [], ◌∷◌, ◌++◌, refl, sym, ◌∙◌, ap, subst}
+use Rattle.std.proofs.Common.{List, [], ◌∷◌, ◌++◌, refl, sym, ◌∙◌, ap, subst}
 use Rattle.dps_terms.specs.Tree.{Tree}
 use Rattle.dps_terms.specs.Signature.{Signature}
 use Rattle.dps_theory.specs.Theory.{Theory}
 use Rattle.dps_process.specs.Process.{Process}
-use Rattle.dps_process.specs.Steps.{Config, Label, Action, silent, shows, Takes, here, there, Moves, Meets, Step, alone, together, IsReordered, no_parts, a_part, AreOneBag}
+use Rattle.dps_process.specs.Steps.{Config, Label, Action, Takes, here, there, Moves, Step, alone, together, IsReordered, no_parts, a_part, AreOneBag}
 use Rattle.dps_process.specs.Traces.{Runs, done, silently, visibly, Ends}
 
 pub reordered_refl : (ps : List Process) → IsReordered ps ps
@@ -48,6 +48,9 @@ reordered_sym (a_part t r) = put_back t (reordered_sym r)
 pub before_reordered : (ps : List Process) {xs ys : List Process} → IsReordered xs ys → IsReordered (ps ++ xs) (ps ++ ys)
 before_reordered [] r = r
 before_reordered (p ∷ ps) r = a_part here (before_reordered ps r)
+
+pub neighbours_swap : (before after : List Process) (p q : Process) (frame : List Tree) → AreOneBag (record { parts = before ++ (p ∷ q ∷ after); frame = frame }) (record { parts = before ++ (q ∷ p ∷ after); frame = frame })
+neighbours_swap before after p q frame = record { parts = before_reordered before (a_part (there here) (a_part here (reordered_refl after))); frame = refl }
 
 pub bags_refl : (c : Config) → AreOneBag c c
 bags_refl c = record { parts = reordered_refl c.parts; frame = refl }

@@ -1,6 +1,16 @@
 pub mod Bags
 pub mod Substituting
+pub mod FreeVariables
 pub mod Running
 pub mod Tracing
 pub mod Branches
+pub mod Inverting
+pub mod Commuting
 pub mod Outputs
+pub mod Attacks
+pub mod Lawful
+pub mod HiddenNames
+pub mod HiddenTest
+pub mod Counting
+pub mod OneRun
+pub mod NoRun

@@ -1,11 +1,11 @@
 -- Steps use up process nodes, and runs only add to the frame.
-use Rattle.std.proofs.Common.{◌≡◌, ℕ, ◌+◌, ◌<◌, List, [], ◌∷◌, ◌++◌, refl, sym, ◌∙◌, ap, subst, arith, append_assoc, append-nil}
+use Rattle.std.proofs.Common.{◌≡◌, ℕ, ◌+◌, ◌<◌, List, [], ◌∷◌, ◌++◌, refl, sym, ◌∙◌, ap, arith, append_assoc, append-nil}
 use Rattle.dps_terms.specs.Tree.{Tree}
 use Rattle.dps_terms.specs.Replace.{variables_to}
 use Rattle.dps_terms.specs.Signature.{Signature}
 use Rattle.dps_theory.specs.Theory.{Theory}
-use Rattle.dps_process.specs.Process.{Process, process_nodes, part_nodes, put, only}
-use Rattle.dps_process.specs.Steps.{Config, Label, Action, Takes, here, there, Moves, ends, splits, first, second, passes, fails, binds, binds_not, receives, sends, Meets, meets, Step, alone, together}
+use Rattle.dps_process.specs.Process.{Process, nil, process_nodes, part_nodes, put, only}
+use Rattle.dps_process.specs.Steps.{Config, Label, Action, silent, Takes, here, there, Moves, ends, splits, first, second, passes, fails, binds, binds_not, receives, sends, Meets, meets, Step, alone, together}
 use Rattle.dps_process.specs.Traces.{Runs, done, silently, visibly}
 use Rattle.dps_process.proofs.Substituting.{process_nodes-replace_in}
 
@@ -21,6 +21,12 @@ part_nodes-taken here = refl
 part_nodes-taken (there h) = let e = part_nodes-taken h in omega arith
 
 module _ (signature : Signature) (theory : Theory) where
+  nil_only : {frame added : List Tree} {action : Action} {become : List Process} → Moves signature theory frame nil action become added → (action ≡ silent) × (become ≡ []) × (added ≡ [])
+  nil_only ends = (refl, refl, refl)
+
+  pub nil_ends : (frame : List Tree) → Moves signature theory frame nil silent [] [] × ((action : Action) (become : List Process) (added : List Tree) → Moves signature theory frame nil action become added → (action ≡ silent) × (become ≡ []) × (added ≡ []))
+  nil_ends frame = (ends, λ action become added m. nil_only m)
+
   moves_use_up : {frame added : List Tree} {part : Process} {action : Action} {become : List Process} → Moves signature theory frame part action become added → part_nodes become < process_nodes part
   moves_use_up ends = omega arith
   moves_use_up splits = omega arith

@@ -1,6 +1,6 @@
 -- Trace equivalence is an equivalence, and attacks are what refutes it.
-use Rattle.std.proofs.Common.{◌≡◌, List, refl, inl, inr}
-use Rattle.std.specs.Prelude.{◌⊎◌, ◌↔◌}
+use Rattle.std.proofs.Common.{List, inl, inr}
+use Rattle.std.specs.Prelude.{◌↔◌}
 use Rattle.dps_branch.specs.declared.Side.{Side}
 use Rattle.dps_branch.specs.declared.Side.TheVariants.{Left, Right}
 use Rattle.dps_branch.specs.Sides.{opposite}
@@ -15,8 +15,12 @@ use Rattle.dps_process.specs.Traces.{IsTrace, Matches, IsIncluded, AreTraceEquiv
 use Rattle.dps_process.specs.Laws.{IsDecided}
 
 module _ (signature : Signature) (theory : Theory) where
+  -- a process that has the traces of another
+  pub same_traces : (p q : Process) → ((word : List Label) (frame : List Tree) → IsTrace signature theory p word frame → IsTrace signature theory q word frame) → IsIncluded signature theory p q
+  same_traces p q h = record { matched = λ word frame t. record { other = frame; trace = h word frame t; equivalent = reflexive signature theory frame } }
+
   included_refl : (p : Process) → IsIncluded signature theory p p
-  included_refl p = record { matched = λ word frame t. record { other = frame; trace = t; equivalent = reflexive signature theory frame } }
+  included_refl p = same_traces p p (λ word frame t. t)
 
   included_trans : (p q r : Process) → IsIncluded signature theory p q → IsIncluded signature theory q r → IsIncluded signature theory p r
   included_trans p q r h k = record { matched = λ word frame t. joined word frame (h.matched word frame t) }

@@ -1,14 +1,15 @@
 -- Small processes, over the signature and the theory of symmetric encryption.
 use Rattle.std.specs.Prelude.{◌≡◌, List, [], ◌∷◌}
-use Rattle.dps_terms.specs.Tree.{Tree}
-use Rattle.dps_theory.specs.Examples.{signature, theory, over, senc, sdec, a, b, k, n}
-use Rattle.dps_process.specs.Process.{Process, nil, conditional, bind, output, put}
+use Rattle.dps_terms.specs.declared.PublicName.TheVariants.{Declared, At}
+use Rattle.dps_terms.specs.Tree.{public, Tree, leaf, app, none, more}
+use Rattle.dps_theory.specs.Examples.{signature, theory, over, senc, sdec, a, b, k, n, x}
+use Rattle.dps_process.specs.Process.{Process, nil, choice, conditional, bind, input, output, put}
 use Rattle.dps_process.specs.Problem.{Problem}
-use Rattle.dps_process.specs.Steps.{Action, Label, silent, Moves}
-use Rattle.dps_process.specs.Traces.{IsAttack}
-use Rattle.dps_branch.specs.declared.Side.{Side}
-use Rattle.dps_process.specs.declared.examples.OutputPair.{OutputPair}
-use Rattle.dps_process.specs.declared.examples.OutputPair.TheVariants.{PublicNames, PrivateNames}
+use Rattle.dps_process.specs.Steps.{Action, Label, inputs, outputs, silent, Moves}
+use Rattle.dps_process.specs.declared.examples.Output.{Output}
+use Rattle.dps_process.specs.declared.examples.Output.TheVariants.{DeclaredName, PrivateName, FreeVariable, WrongArity, UndeclaredName, OwnName, UndeclaredChannel}
+use Rattle.dps_process.specs.declared.examples.ProcessPair.{ProcessPair}
+use Rattle.dps_process.specs.declared.examples.ProcessPair.TheVariants.{PublicNames, PrivateNames, PublicTest, PrivateTest, OneOfTwo, TwoChannels}
 use Rattle.dps_process.specs.declared.examples.Branching.{Branching}
 use Rattle.dps_process.specs.declared.examples.Branching.TheVariants.{SameNames, DifferentNames, SameFailure, SameValue, BoundValue, BoundFailure}
 
@@ -40,14 +41,40 @@ TakesFirst t = (frame : List Tree) (p q : Process) → GoesOnAs frame (branching
 abbrev pub TakesSecond : Branching → Type 0
 TakesSecond t = (frame : List Tree) (p q : Process) → GoesOnAs frame (branching t p q) q
 
--- one output on the channel a
-abbrev pub two_outputs : Tree → Tree → Problem
-two_outputs t u = record { signature = signature; theory = theory; left = output 0 t nil; right = output 0 u nil }
+-- `out(a,t)`
+abbrev pub tells : Tree → Process
+tells t = output 0 t nil
 
-abbrev pub problem_of : OutputPair → Problem
-problem_of PublicNames = two_outputs a b
-problem_of PrivateNames = two_outputs k n
+-- `in(a,x); if x = t then out(a,a) else out(a,b)`
+abbrev pub tests : Tree → Process
+tests t = input 0 1 (conditional x t (tells a) (tells b))
 
--- some side has an attack
-abbrev pub IsAttacked : Problem → Type 0
-IsAttacked problem = (side : Side) × (word : List Label) × IsAttack problem side word
+abbrev pub against : Process → Process → Problem
+against p q = record { signature = signature; theory = theory; left = p; right = q }
+
+abbrev pub problem_of : ProcessPair → Problem
+problem_of PublicNames = against (tells a) (tells b)
+problem_of PrivateNames = against (tells k) (tells n)
+problem_of PublicTest = against (tests a) (input 0 1 (tells b))
+problem_of PrivateTest = against (tests k) (input 0 1 (tells b))
+problem_of OneOfTwo = against (tells a) (choice (tells a) (tells b))
+problem_of TwoChannels = against (tells a) (output 1 a nil)
+
+-- the labels of an attack, where there is one
+abbrev pub attack_of : ProcessPair → List Label
+attack_of PublicTest = inputs 0 a ∷ outputs 0 1 ∷ []
+attack_of pair = outputs 0 1 ∷ []
+
+-- one output
+abbrev pub output_of : Output → Process
+output_of DeclaredName = tells a
+output_of PrivateName = tells k
+output_of FreeVariable = tells x
+output_of WrongArity = tells (app senc (more a none))
+output_of UndeclaredName = tells (leaf (public (Declared 2)))
+output_of OwnName = tells (leaf (public (At 0)))
+output_of UndeclaredChannel = output 2 a nil
+
+-- against `out(a,b)`
+abbrev pub with_output : Output → Problem
+with_output o = against (output_of o) (tells b)

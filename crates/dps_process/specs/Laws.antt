@@ -1,14 +1,15 @@
 -- What a reader expects of steps, traces and equivalence, each stated as one fact.
-use Rattle.std.specs.Prelude.{◌≡◌, ◌⊎◌, ◌↔◌, ℕ, ◌<◌, List, ◌++◌}
+use Rattle.std.specs.Prelude.{◌≡◌, ◌≢◌, ◌⊎◌, ◌↔◌, ℕ, ◌<◌, List, [], ◌∷◌, ◌++◌}
 use Rattle.dps_branch.specs.declared.Side.{Side}
 use Rattle.dps_branch.specs.Sides.{opposite}
 use Rattle.dps_terms.specs.Tree.{Tree}
 use Rattle.dps_terms.specs.Signature.{Signature}
+use Rattle.dps_terms.specs.Kinds.{IsClosed}
 use Rattle.dps_theory.specs.Theory.{Theory}
-use Rattle.dps_process.specs.Process.{Process, part_nodes, IsClosedProcess, put}
+use Rattle.dps_process.specs.Process.{Process, nil, parallel, choice, part_nodes, IsFree, IsClosedProcess, put}
 use Rattle.dps_process.specs.Problem.{Problem, side_of}
-use Rattle.dps_process.specs.Steps.{Config, Label, Action, Step, AreOneBag}
-use Rattle.dps_process.specs.Traces.{Runs, Ends, IsTrace, Matches, AreTraceEquivalent, IsEquivalent, IsTraceOf, IsAttack}
+use Rattle.dps_process.specs.Steps.{Config, Label, Action, silent, Moves, Step, AreOneBag}
+use Rattle.dps_process.specs.Traces.{Runs, Ends, Matches, AreTraceEquivalent, IsEquivalent, IsTraceOf, IsAttack}
 
 -- being one bag is an equivalence
 abbrev pub BagsReflexive : Type 0
@@ -20,6 +21,12 @@ BagsSymmetric = (c d : Config) → AreOneBag c d → AreOneBag d c
 abbrev pub BagsTransitive : Type 0
 BagsTransitive = (c d e : Config) → AreOneBag c d → AreOneBag d e → AreOneBag c e
 
+-- parts that stand side by side may be exchanged, and so any parts
+abbrev pub NeighboursSwap : Type 0
+NeighboursSwap =
+    (before after : List Process) (p q : Process) (frame : List Tree)
+    → AreOneBag (record { parts = before ++ (p ∷ q ∷ after); frame = frame }) (record { parts = before ++ (q ∷ p ∷ after); frame = frame })
+
 -- the order of the parts matters to no run
 abbrev pub OrderIsUnseen : Type 0
 OrderIsUnseen =
@@ -27,6 +34,15 @@ OrderIsUnseen =
     → AreOneBag c d
     → Ends signature theory c word frame
     → Ends signature theory d word frame
+
+-- `0` goes silently, and does nothing else
+abbrev pub NilEnds : Type 0
+NilEnds =
+    (signature : Signature) (theory : Theory) (frame : List Tree)
+    → Moves signature theory frame nil silent [] []
+    × ((action : Action) (become : List Process) (added : List Tree)
+    → Moves signature theory frame nil action become added
+    → (action ≡ silent) × (become ≡ []) × (added ≡ []))
 
 -- each step uses up a process node, so each list of steps is finite
 abbrev pub StepsUseUp : Type 0
@@ -46,6 +62,10 @@ FramesGrow =
 abbrev pub ClosedProcessStays : Type 0
 ClosedProcessStays = (x : ℕ) (t : Tree) (p : Process) → IsClosedProcess p → put x t p ≡ p
 
+-- a closed term put for a variable removes this variable, and no other
+abbrev pub PutRemoves : Type 0
+PutRemoves = (x : ℕ) (t : Tree) (p : Process) → IsClosed t → (y : ℕ) → IsFree y (put x t p) ↔ (IsFree y p × (y ≢ x))
+
 -- trace equivalence is an equivalence
 abbrev pub TracesReflexive : Type 0
 TracesReflexive = (signature : Signature) (theory : Theory) (p : Process) → AreTraceEquivalent signature theory p p
@@ -59,6 +79,13 @@ abbrev pub TracesTransitive : Type 0
 TracesTransitive =
     (signature : Signature) (theory : Theory) (p q r : Process)
     → AreTraceEquivalent signature theory p q → AreTraceEquivalent signature theory q r → AreTraceEquivalent signature theory p r
+
+-- the order of the two processes does not matter
+abbrev pub ChoiceCommutes : Type 0
+ChoiceCommutes = (signature : Signature) (theory : Theory) (p q : Process) → AreTraceEquivalent signature theory (choice p q) (choice q p)
+
+abbrev pub ParallelCommutes : Type 0
+ParallelCommutes = (signature : Signature) (theory : Theory) (p q : Process) → AreTraceEquivalent signature theory (parallel p q) (parallel q p)
 
 -- an attack refutes equivalence
 abbrev pub AttackRefutes : Type 0

@@ -4,3 +4,4 @@ pub mod Steps
 pub mod Traces
 pub mod Laws
 pub mod Examples
+pub mod Runs

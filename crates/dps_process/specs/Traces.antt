@@ -1,7 +1,6 @@
 -- Traces, trace equivalence and attacks.
 use Rattle.std.specs.Prelude.{◌≡◌, List, [], ◌∷◌}
 use Rattle.dps_branch.specs.declared.Side.{Side}
-use Rattle.dps_branch.specs.declared.Side.TheVariants.{Left, Right}
 use Rattle.dps_branch.specs.Sides.{opposite}
 use Rattle.dps_terms.specs.Tree.{Tree}
 use Rattle.dps_terms.specs.Signature.{Signature}
@@ -9,7 +8,7 @@ use Rattle.dps_theory.specs.Theory.{Theory}
 use Rattle.dps_theory.specs.Frames.{AreStaticallyEquivalent}
 use Rattle.dps_process.specs.Process.{Process}
 use Rattle.dps_process.specs.Problem.{Problem, side_of}
-use Rattle.dps_process.specs.Steps.{Config, start, Label, Action, silent, shows, Step}
+use Rattle.dps_process.specs.Steps.{Config, start, Label, silent, shows, Step}
 
 -- a list of steps with these labels, the silent steps left out
 pub data Runs (signature : Signature) (theory : Theory) : Config → List Label → Config → Type 0 where

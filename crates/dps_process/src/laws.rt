@@ -1,5 +1,5 @@
 //! The laws of steps, traces and equivalence. Each function does nothing: its contract is the law.
-ghost use Rattle.dps_process.specs.Laws.{BagsReflexive, BagsSymmetric, BagsTransitive, OrderIsUnseen, StepsUseUp, FramesGrow, ClosedProcessStays, TracesReflexive, TracesSymmetric, TracesTransitive, AttackRefutes, NoAttackLeavesNoneUnmatched, NoAttackIsEquivalence};
+ghost use Rattle.dps_process.specs.Laws.{BagsReflexive, BagsSymmetric, BagsTransitive, NeighboursSwap, OrderIsUnseen, NilEnds, StepsUseUp, FramesGrow, ClosedProcessStays, PutRemoves, TracesReflexive, TracesSymmetric, TracesTransitive, ChoiceCommutes, ParallelCommutes, AttackRefutes, NoAttackLeavesNoneUnmatched, NoAttackIsEquivalence};
 
 /// A configuration is the same bag as itself.
 pub fn bags_reflexive()
@@ -16,9 +16,19 @@ pub fn bags_transitive()
     ensures { BagsTransitive }
 {}
 
+/// Parts that stand side by side may be exchanged, and so any parts.
+pub fn neighbours_swap()
+    ensures { NeighboursSwap }
+{}
+
 /// The order of the parts matters to no run.
 pub fn order_is_unseen()
     ensures { OrderIsUnseen }
+{}
+
+/// `0` goes silently, and does nothing else.
+pub fn nil_ends()
+    ensures { NilEnds }
 {}
 
 /// Each step uses up a process node, so each list of steps is finite.
@@ -36,6 +46,11 @@ pub fn closed_process_stays()
     ensures { ClosedProcessStays }
 {}
 
+/// A closed term put for a variable removes this variable from the free ones, and no other.
+pub fn put_removes()
+    ensures { PutRemoves }
+{}
+
 /// A process is equivalent to itself.
 pub fn traces_reflexive()
     ensures { TracesReflexive }
@@ -49,6 +64,16 @@ pub fn traces_symmetric()
 /// Processes equivalent to one process are equivalent.
 pub fn traces_transitive()
     ensures { TracesTransitive }
+{}
+
+/// `P + Q` is equivalent to `Q + P`.
+pub fn choice_commutes()
+    ensures { ChoiceCommutes }
+{}
+
+/// `P | Q` is equivalent to `Q | P`.
+pub fn parallel_commutes()
+    ensures { ParallelCommutes }
 {}
 
 /// An attack of either side refutes equivalence.

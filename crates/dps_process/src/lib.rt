@@ -1,8 +1,10 @@
 //! Processes, problems, steps, traces and trace equivalence, as contracts speak of them.
 //!
 //! The definitions stand in `specs/`: `Process` and `Problem`, `Steps` (configurations and their labelled steps) and
-//! `Traces` (traces, equivalence, attacks). Their laws are the contracts of `laws`, and `examples` has small processes.
+//! `Traces` (traces, equivalence, attacks). Their laws are the contracts of `laws`. `examples` has small processes that are
+//! equivalent or not, and `runs` has small processes with labels that are a trace or not.
 #![tactic(auto)]
 
 pub mod examples;
 pub mod laws;
+pub mod runs;

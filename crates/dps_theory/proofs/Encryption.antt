@@ -1,20 +1,18 @@
 -- Symmetric encryption in the small: what the one rule computes, and what a kept key hides.
-use Rattle.std.proofs.Common.{◌≡◌, ℕ, zero, suc, ◌+◌, ◌<◌, ◌≤◌, List, [], ◌∷◌, length, refl, sym, ◌∙◌, ap, subst, inl, inr, arith}
-use Rattle.std.specs.Prelude.{◌⊎◌, ◌↔◌, Contains, slice_get, Some, codes}
+use Rattle.std.proofs.Common.{◌≡◌, ℕ, zero, suc, ◌<◌, [], ◌∷◌, refl, sym, ◌∙◌, ap, subst, inl, arith}
+use Rattle.std.specs.Prelude.{codes}
 use Rattle.std.specs.List.{slice_index_or}
 use Rattle.dps_terms.specs.declared.Sym.{Sym}
 use Rattle.dps_terms.specs.declared.SymKind.TheVariants.{Constructor, Destructor}
-use Rattle.dps_terms.specs.declared.PublicName.{PublicName}
-use Rattle.dps_terms.specs.declared.PublicName.TheVariants.{Declared, At}
-use Rattle.dps_terms.specs.Tree.{Leaf, public, private, var, ax, entry, rigid, Tree, Trees, leaf, app, none, more, count, IsStrictSubterm, itself, below, in_first, in_rest, strictly}
-use Rattle.dps_terms.specs.Replace.{replace, replace_all, in_frame, handles_to, substitute, substitute_all}
-use Rattle.dps_terms.specs.Signature.{HasShape, HasArity, shapes}
-use Rattle.dps_terms.specs.Kinds.{IsPlain, IsRecipe, IsRecipeLeaf, IsBuiltOf, AreBuiltOf, IsDeclared, IsName}
-use Rattle.dps_terms.proofs.Building.{count-replace_all}
-use Rattle.dps_theory.specs.Theory.{Rule, Theory, HasRule, IsAccepted, HasDestructorRoot, HasConstructorArguments}
+use Rattle.dps_terms.specs.declared.PublicName.TheVariants.{Declared}
+use Rattle.dps_terms.specs.Tree.{private, ax, Tree, Trees, leaf, app, none, more, count, IsStrictSubterm, itself, below, in_first, strictly}
+use Rattle.dps_terms.specs.Replace.{substitute, substitute_all}
+use Rattle.dps_terms.specs.Signature.{HasShape}
+use Rattle.dps_terms.specs.Kinds.{IsPlain, IsBuiltOf, AreBuiltOf, AnySymbol, IsName, IsOver}
+use Rattle.dps_theory.specs.Theory.{Rule, Theory, HasRule, IsAccepted, HasDestructorRoot, HasConstructorArguments, HasPlainRules, IsRuleLeaf}
 use Rattle.dps_theory.specs.Evaluation.{Evaluates, EvaluateAll, Reduces, named, constructed, reduced, no_terms, a_term, IsMessage, AreEqual}
-use Rattle.dps_theory.specs.Frames.{HasValue, Succeeds, HaveOneValue, AreStaticallyEquivalent, Test, succeeds, equal, IsTest, Separates, AreToldApart}
-use Rattle.dps_theory.specs.Examples.{senc, sdec, signature, over, decryption, theory, overlapping, a, b, k, n, x, y, told_key}
+use Rattle.dps_theory.specs.Frames.{succeeds, equal, AreToldApart}
+use Rattle.dps_theory.specs.Examples.{senc, sdec, signature, over, decryption, theory, overlapping, a, b, k, n, m, x, y, told_key}
 use Rattle.dps_theory.proofs.Evaluating.{plain_evaluates, plain_alone, plain_all_alone, one_kind}
 
 -- the one element of a list
@@ -45,6 +43,17 @@ decryption_accepted = record {
   bounded = λ q h. inl (subst (λ (r : Rule). IsStrictSubterm r.right r.left) (one_rule q h) (strictly (in_first (below (in_first itself)))));
   agreeing = λ r q h i z w e. agreed r q (one_rule r h) (one_rule q i) z w e;
 }
+
+-- it is written with variables alone, over the symbols of the signature
+pub decryption_plain : HasPlainRules theory
+decryption_plain = record {
+  left = λ q h. subst (λ (r : Rule). IsBuiltOf IsRuleLeaf AnySymbol r.left) (one_rule q h) (tt, ((tt, (tt, (tt, tt))), (tt, tt)));
+  right = λ q h. subst (λ (r : Rule). IsBuiltOf IsRuleLeaf AnySymbol r.right) (one_rule q h) tt;
+}
+
+pub decryption_over : (q : Rule) → HasRule theory q → IsOver signature q.left × IsOver signature q.right
+decryption_over q h =
+    subst (λ (r : Rule). IsOver signature r.left × IsOver signature r.right) (one_rule q h) (((Destructor, refl), (((Constructor, refl), (tt, (tt, tt))), (tt, tt))), tt)
 
 -- what one use of the rule does
 abbrev pub Decrypts : Sym → Trees → Tree → Type 0
@@ -77,9 +86,12 @@ reduces t key = record {
   right = refl;
 }
 
+pub opened : (t key : Tree) → IsPlain theory.shapes t → IsPlain theory.shapes key → Evaluates theory (over sdec (over senc t key) key) t
+opened t key p q =
+    reduced (more (over senc t key) (more key none)) refl (a_term (plain_evaluates theory (over senc t key) (refl, (p, (q, tt)))) (a_term (plain_evaluates theory key q) no_terms)) (reduces t key)
+
 pub opens : Evaluates theory (over sdec (over senc a b) b) a
-opens =
-    reduced (more (over senc a b) (more b none)) refl (a_term (plain_evaluates theory (over senc a b) (refl, (tt, (tt, tt)))) (a_term (named tt) no_terms)) (reduces a b)
+opens = opened a b tt tt
 
 pub right_key : IsMessage theory (over sdec (over senc a b) b)
 right_key = (a, opens)
@@ -157,6 +169,17 @@ key_told = (
     over = ((omega arith, omega arith), ((Constructor, refl), ((codes "a", refl), ((omega arith, omega arith), tt))));
     holds = record { value = over senc a k; left = plain_evaluates theory (over senc a k) (cipher_plain a tt); right = plain_evaluates theory (over senc a k) (cipher_plain a tt) };
     fails = λ e. different_ciphertexts (plain_equal theory (over senc b k) (over senc a k) (cipher_plain b tt) (cipher_plain a tt) e);
+  }),
+)
+
+-- only the first is opened by the key
+pub ciphertext_told : AreToldApart signature theory (told_key n) (m ∷ k ∷ [])
+ciphertext_told = (
+  succeeds (over sdec (leaf (ax 1)) (leaf (ax 2))),
+  inl (record {
+    over = ((Destructor, refl), ((omega arith, omega arith), ((omega arith, omega arith), tt)));
+    holds = (n, opened n k tt tt);
+    fails = λ e. let f : m ≡ over senc e.0 k = opened_only m k e.0 (over sdec m k) tt tt refl e.1 in cc;
   }),
 )
 

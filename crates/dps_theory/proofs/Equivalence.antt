@@ -1,18 +1,16 @@
 -- Static equivalence is an equivalence, and one of values under an accepted theory.
-use Rattle.std.proofs.Common.{◌≡◌, ℕ, zero, suc, ◌+◌, ◌<◌, ◌≤◌, List, [], ◌∷◌, length, take, min, refl, sym, ◌∙◌, ap, subst, inl, inr, arith}
-use Rattle.std.specs.Prelude.{◌↔◌, ◌⊎◌, slice_get, unwrap_or, Option}
+use Rattle.std.proofs.Common.{◌≡◌, ℕ, zero, suc, ◌<◌, ◌≤◌, List, [], ◌∷◌, length, take, min, refl, sym, ◌∙◌, ap, subst, inl, inr, arith}
+use Rattle.std.specs.Prelude.{◌↔◌, slice_get, unwrap_or}
 use Rattle.std.proofs.lemmas.List.{length-take}
-use Rattle.dps_terms.specs.declared.SymKind.TheVariants.{Constructor}
-use Rattle.dps_terms.specs.declared.PublicName.{PublicName}
-use Rattle.dps_terms.specs.Tree.{Leaf, public, private, var, ax, entry, rigid, Tree, Trees, leaf, app, count, StandsIn}
-use Rattle.dps_terms.specs.Replace.{replace, in_frame, handles_to, numbered}
+use Rattle.dps_terms.specs.Tree.{Leaf, public, private, var, ax, entry, rigid, Tree, leaf}
+use Rattle.dps_terms.specs.Replace.{in_frame, handles_to, numbered}
 use Rattle.dps_terms.specs.Signature.{Signature, HasArity, shapes}
-use Rattle.dps_terms.specs.Kinds.{IsRecipe, IsRecipeLeaf, IsBuiltOf}
+use Rattle.dps_terms.specs.Kinds.{IsRecipe, IsRecipeLeaf}
 use Rattle.dps_terms.proofs.Replacing.{replace_agrees}
 use Rattle.dps_terms.proofs.Building.{leaf_meets, built_weaker}
 use Rattle.dps_theory.specs.Theory.{Theory, IsAccepted}
-use Rattle.dps_theory.specs.Evaluation.{Evaluates, IsMessage, AreEqual}
-use Rattle.dps_theory.specs.Frames.{HasValue, Succeeds, HaveOneValue, AreStaticallyEquivalent, Test, succeeds, equal, IsTest, Separates, AreToldApart}
+use Rattle.dps_theory.specs.Evaluation.{IsMessage, AreEqual}
+use Rattle.dps_theory.specs.Frames.{HasValue, HaveOneValue, AreStaticallyEquivalent, Test, succeeds, equal, Separates, AreToldApart}
 use Rattle.dps_theory.specs.Laws.{AgreeOnValues}
 use Rattle.dps_theory.proofs.Evaluating.{evaluates_once}
 

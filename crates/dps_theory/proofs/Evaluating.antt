@@ -1,20 +1,19 @@
 -- Evaluation gives at most one value, and leaves what holds no destructor.
 use Rattle.std.proofs.Common.{◌≡◌, ℕ, ◌+◌, refl, sym, ◌∙◌, ap, subst, inl, inr}
-use Rattle.std.specs.Prelude.{List, slice_get, Option, Some, Contains, ◌⊎◌}
+use Rattle.std.specs.Prelude.{List, Option, Some, ◌⊎◌}
 use Rattle.std.specs.Option.{option_map}
 use Rattle.dps_terms.specs.declared.Sym.{Sym}
 use Rattle.dps_terms.specs.declared.SymKind.{SymKind}
 use Rattle.dps_terms.specs.declared.SymKind.TheVariants.{Constructor, Destructor}
-use Rattle.dps_terms.specs.declared.PublicName.{PublicName}
-use Rattle.dps_terms.specs.Tree.{Leaf, public, private, var, ax, entry, rigid, Tree, Trees, leaf, app, none, more, count, IsSubterm, IsAmong, StandsIn, IsStrictSubterm, itself, below, in_first, in_rest, strictly}
-use Rattle.dps_terms.specs.Replace.{replace, replace_all, substitute, substitute_all, variables_to}
+use Rattle.dps_terms.specs.Tree.{Leaf, public, private, var, ax, entry, rigid, Tree, Trees, leaf, app, none, more, count, IsAmong, StandsIn, IsStrictSubterm, itself, below, in_first, in_rest, strictly}
+use Rattle.dps_terms.specs.Replace.{substitute, substitute_all, variables_to}
 use Rattle.dps_terms.specs.Signature.{Shape, HasShape}
-use Rattle.dps_terms.specs.Kinds.{IsPlain, IsBuiltOf, AreBuiltOf, IsName, AnyLeaf, AnySymbol, IsNoVariable, IsClosed, IsConstructorTerm}
-use Rattle.dps_terms.proofs.Subterms.{nested, nested_among}
-use Rattle.dps_terms.proofs.Replacing.{keeps_subterms, keeps_among}
+use Rattle.dps_terms.specs.Kinds.{IsPlain, AreBuiltOf, IsName, AnyLeaf, AnySymbol, IsNoVariable, IsClosed, IsConstructorTerm}
+use Rattle.dps_terms.proofs.Subterms.{nested_among}
+use Rattle.dps_terms.proofs.Replacing.{keeps_among}
 use Rattle.dps_terms.proofs.Building.{leaf_meets, built_among, count-replace_all}
-use Rattle.dps_theory.specs.Theory.{Rule, Theory, HasRule, IsAccepted, HasPlainRules, IsRuleLeaf}
-use Rattle.dps_theory.specs.Evaluation.{Evaluates, EvaluateAll, Reduces, named, constructed, reduced, no_terms, a_term, IsMessage, AreEqual}
+use Rattle.dps_theory.specs.Theory.{Theory, IsAccepted, HasPlainRules, IsRuleLeaf}
+use Rattle.dps_theory.specs.Evaluation.{Evaluates, EvaluateAll, Reduces, named, constructed, reduced, no_terms, a_term}
 
 pub one_kind : (shapes : List Shape) (f : Sym) (n m : ℕ) → HasShape shapes Constructor f n → HasShape shapes Destructor f m → ⊥
 one_kind shapes f n m k l =
@@ -83,7 +82,7 @@ module _ (theory : Theory) where
   bound_plain : (by : ℕ → Tree) (ps vs : Trees) (n : ℕ) → substitute_all by ps ≡ vs → ArePlain vs → IsAmong (leaf (var n)) ps → IsPlain theory.shapes (by n)
   bound_plain by ps vs n e p k = built_among IsName (HasShape theory.shapes Constructor) p (subst (IsAmong (by n)) e (keeps_among (variables_to by) k))
 
-  strict_of_app : (u t : Tree) (g : Sym) (ts : Trees) → t ≡ app g ts → IsStrictSubterm u t → IsAmong u ts
+  pub strict_of_app : (u t : Tree) (g : Sym) (ts : Trees) → t ≡ app g ts → IsStrictSubterm u t → IsAmong u ts
   strict_of_app u t g ts e k = parts ts (subst (IsStrictSubterm u) e k)
     where
       parts : (ts : Trees) → IsStrictSubterm u (app g ts) → IsAmong u ts

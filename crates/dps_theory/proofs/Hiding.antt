@@ -1,20 +1,18 @@
 -- What stands under a key that is kept is hidden: the frames `senc(c,k)` and `senc(d,k)` are statically equivalent.
-use Rattle.std.proofs.Common.{◌≡◌, ℕ, zero, suc, ◌+◌, ◌<◌, ◌≤◌, List, [], ◌∷◌, length, refl, sym, ◌∙◌, ap, ap₂, subst, inl, inr, arith}
-use Rattle.std.specs.Prelude.{◌↔◌}
+use Rattle.std.proofs.Common.{◌≡◌, ℕ, zero, suc, ◌≤◌, refl, sym, ◌∙◌, ap, ap₂, subst, arith}
 use Rattle.dps_terms.specs.declared.Sym.{Sym}
 use Rattle.dps_terms.specs.declared.SymKind.TheVariants.{Constructor, Destructor}
 use Rattle.dps_terms.specs.declared.PublicName.{PublicName}
 use Rattle.dps_terms.specs.Tree.{Leaf, public, private, var, ax, entry, rigid, Tree, Trees, leaf, app, none, more, count}
-use Rattle.dps_terms.specs.Replace.{replace, replace_all, in_frame, handles_to}
+use Rattle.dps_terms.specs.Replace.{replace_all, in_frame, handles_to}
 use Rattle.dps_terms.specs.Signature.{HasShape, HasArity, shapes}
-use Rattle.dps_terms.specs.Kinds.{IsPlain, IsRecipe, IsRecipeLeaf, IsBuiltOf, AreBuiltOf}
+use Rattle.dps_terms.specs.Kinds.{IsPlain, IsRecipe, IsRecipeLeaf, AreBuiltOf}
 use Rattle.dps_terms.proofs.Building.{count-replace_all}
-use Rattle.dps_theory.specs.Theory.{Theory}
-use Rattle.dps_theory.specs.Evaluation.{Evaluates, EvaluateAll, Reduces, named, constructed, reduced, no_terms, a_term, IsMessage, AreEqual}
-use Rattle.dps_theory.specs.Frames.{HasValue, Succeeds, HaveOneValue, AreStaticallyEquivalent}
+use Rattle.dps_theory.specs.Evaluation.{Evaluates, EvaluateAll, Reduces, named, constructed, reduced, no_terms, a_term}
+use Rattle.dps_theory.specs.Frames.{HasValue, HaveOneValue, AreStaticallyEquivalent}
 use Rattle.dps_theory.specs.Examples.{senc, sdec, signature, over, theory, k, kept_key}
 use Rattle.dps_theory.proofs.Evaluating.{plain_evaluates, plain_alone}
-use Rattle.dps_theory.proofs.Encryption.{Decrypts, decrypts, reduces, cipher_plain}
+use Rattle.dps_theory.proofs.Encryption.{decrypts, reduces, cipher_plain}
 
 -- what an attacker builds from the one ciphertext, and what the same steps build from the other
 mutual

@@ -1,5 +1,7 @@
 pub mod Evaluating
+pub mod Leaves
 pub mod Renaming
 pub mod Equivalence
+pub mod NamesUnseen
 pub mod Encryption
 pub mod Hiding

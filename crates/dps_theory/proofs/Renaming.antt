@@ -2,7 +2,7 @@
 use Rattle.std.proofs.Common.{◌≡◌, ℕ, refl, sym, ◌∙◌, ap, subst}
 use Rattle.dps_terms.specs.declared.Sym.{Sym}
 use Rattle.dps_terms.specs.declared.SymKind.TheVariants.{Constructor, Destructor}
-use Rattle.dps_terms.specs.Tree.{Leaf, public, private, var, ax, entry, rigid, Tree, Trees, leaf, app, none, more, count, IsSubterm, IsAmong, StandsIn, below}
+use Rattle.dps_terms.specs.Tree.{Leaf, public, private, var, ax, entry, rigid, Tree, Trees, leaf, IsAmong, StandsIn, below}
 use Rattle.dps_terms.specs.Replace.{replace, replace_all, substitute, substitute_all, variables_to}
 use Rattle.dps_terms.specs.Signature.{HasShape}
 use Rattle.dps_terms.specs.Kinds.{AnySymbol, IsName, IsNoVariable}

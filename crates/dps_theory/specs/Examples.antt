@@ -1,18 +1,18 @@
 -- A small signature and theory, and frames over them. Its text is
 --   free a, b.  fun senc/2.  reduc sdec(senc(x,y),y) -> x.
-use Rattle.std.specs.Prelude.{ℕ, List, [], ◌∷◌, codes, true, false}
+use Rattle.std.specs.Prelude.{List, [], ◌∷◌, codes, false}
 use Rattle.dps_terms.specs.declared.Sym.{Sym}
 use Rattle.dps_terms.specs.declared.SymKind.TheVariants.{Constructor, Destructor}
 use Rattle.dps_terms.specs.declared.PublicName.TheVariants.{Declared}
-use Rattle.dps_terms.specs.Tree.{public, private, var, ax, Tree, leaf, app, none, more}
-use Rattle.dps_terms.specs.Signature.{Signature, Symbol, Name, shapes}
+use Rattle.dps_terms.specs.Tree.{public, private, var, Tree, leaf, app, none, more}
+use Rattle.dps_terms.specs.Signature.{Signature, shapes}
 use Rattle.dps_theory.specs.Theory.{Rule, Theory}
 use Rattle.dps_theory.specs.declared.examples.RuleList.{RuleList}
 use Rattle.dps_theory.specs.declared.examples.RuleList.TheVariants.{Decryption, Overlap}
 use Rattle.dps_theory.specs.declared.examples.Decryption.{Decryption as Term}
 use Rattle.dps_theory.specs.declared.examples.Decryption.TheVariants.{RightKey, WrongKey, NoCiphertext, BelowConstructor}
 use Rattle.dps_theory.specs.declared.examples.FramePair.{FramePair}
-use Rattle.dps_theory.specs.declared.examples.FramePair.TheVariants.{Repetition, KeptKey, ToldKey}
+use Rattle.dps_theory.specs.declared.examples.FramePair.TheVariants.{Repetition, KeptKey, ToldKey, Ciphertext}
 
 abbrev pub senc : Sym
 senc = record { number = 0 }
@@ -43,7 +43,7 @@ decryption = record { left = over sdec (over senc x y) y; right = x }
 abbrev pub theory : Theory
 theory = record { shapes = shapes signature; rules = decryption ∷ [] }
 
--- the public names a and b, and two private names
+-- the public names a and b, and three private names
 abbrev pub a : Tree
 a = leaf (public (Declared 0))
 
@@ -55,6 +55,9 @@ k = leaf (private 0)
 
 abbrev pub n : Tree
 n = leaf (private 1)
+
+abbrev pub m : Tree
+m = leaf (private 2)
 
 -- Rules that overlap with different results: `sdec(x,y) -> x` and `sdec(a,y) -> b`.
 abbrev pub overlapping : Theory
@@ -84,8 +87,10 @@ abbrev pub first_of : FramePair → List Tree
 first_of Repetition = k ∷ k ∷ []
 first_of KeptKey = kept_key a
 first_of ToldKey = told_key a
+first_of Ciphertext = told_key n
 
 abbrev pub second_of : FramePair → List Tree
 second_of Repetition = k ∷ n ∷ []
 second_of KeptKey = kept_key b
 second_of ToldKey = told_key b
+second_of Ciphertext = m ∷ k ∷ []

@@ -1,13 +1,13 @@
 -- What a reader expects of evaluation and static equivalence, each stated as one fact.
-use Rattle.std.specs.Prelude.{◌≡◌, ◌↔◌, ℕ, List, take, length}
+use Rattle.std.specs.Prelude.{◌≡◌, ◌↔◌, ◌⊎◌, ℕ, List, take, length, All}
 use Rattle.dps_terms.specs.declared.PublicName.TheVariants.{Declared}
-use Rattle.dps_terms.specs.Tree.{Leaf, public, Tree, Trees, leaf, StandsIn}
+use Rattle.dps_terms.specs.Tree.{Leaf, public, Tree, leaf, StandsIn}
 use Rattle.dps_terms.specs.Replace.{replace}
-use Rattle.dps_terms.specs.Signature.{Signature}
-use Rattle.dps_terms.specs.Kinds.{IsName, IsNoVariable, IsPlain, IsRecipe}
+use Rattle.dps_terms.specs.Signature.{Signature, shapes}
+use Rattle.dps_terms.specs.Kinds.{AnySymbol, IsBuiltOf, IsLeafOver, IsName, IsNoVariable, IsPlain, IsRecipe}
 use Rattle.dps_theory.specs.Theory.{Rule, Theory, HasRule, IsAccepted, HasPlainRules}
-use Rattle.dps_theory.specs.Evaluation.{Evaluates, IsMessage}
-use Rattle.dps_theory.specs.Frames.{HasValue, Succeeds, HaveOneValue, AreStaticallyEquivalent, Test, Separates, AreToldApart}
+use Rattle.dps_theory.specs.Evaluation.{Evaluates}
+use Rattle.dps_theory.specs.Frames.{HasValue, Succeeds, AreStaticallyEquivalent, AreToldApart}
 
 -- under an accepted theory a term has at most one value
 abbrev pub EvaluatesAtMostOnce : Type 0
@@ -20,6 +20,16 @@ PlainStays = (theory : Theory) (t : Tree) → IsPlain theory.shapes t → Evalua
 -- where the rules hold declared names and variables alone, what a term evaluates to evaluates to itself
 abbrev pub ValuesArePlain : Type 0
 ValuesArePlain = (theory : Theory) (t v : Tree) → IsAccepted theory → HasPlainRules theory → Evaluates theory t v → IsPlain theory.shapes v
+
+-- a value holds no leaf but those of its term and of the right sides of rules
+abbrev pub ValuesHoldNoNewLeaf : Type 0
+ValuesHoldNoNewLeaf =
+    (theory : Theory) (t v : Tree)
+    → IsAccepted theory
+    → Evaluates theory t v
+    → (x : Leaf)
+    → StandsIn x v
+    → StandsIn x t ⊎ ((r : Rule) × HasRule theory r × StandsIn x r.right)
 
 -- what a replacement leaves of the rules of a theory: each leaf that stands in them and is no variable
 pub record KeepsRules (theory : Theory) (f : Leaf → Tree) : Type 0 where
@@ -100,3 +110,20 @@ EquivalenceIsOfValues =
     (signature : Signature) (theory : Theory) (first second : List Tree)
     → IsAccepted theory
     → AreStaticallyEquivalent signature theory first second ↔ AgreeOnValues signature theory first second
+
+-- each declared name that stands in the tree is a public one of the signature
+abbrev pub HasNamesOf : Signature → Tree → Type 0
+HasNamesOf signature t = IsBuiltOf (IsLeafOver signature) AnySymbol t
+
+-- Which names are declared matters to no static equivalence, where those of the frames and of the rules are: frames that
+-- are equivalent over one signature are so over another of the same symbols.
+abbrev pub UndeclaredNamesAreUnseen : Type 0
+UndeclaredNamesAreUnseen =
+    (one two : Signature) (theory : Theory) (first second : List Tree)
+    → shapes one ≡ shapes two
+    → HasPlainRules theory
+    → ((r : Rule) → HasRule theory r → HasNamesOf one r.left × HasNamesOf one r.right)
+    → All (HasNamesOf one) first
+    → All (HasNamesOf one) second
+    → AreStaticallyEquivalent one theory first second
+    → AreStaticallyEquivalent two theory first second

@@ -27,7 +27,7 @@ pub enum Decryption {
     BelowConstructor,
 }
 
-/// Two frames; `k` and `n` are private names.
+/// Two frames; `k`, `m` and `n` are private names.
 #[derive(Clone, Copy, Debug, PartialEq, Eq)]
 pub enum FramePair {
     /// `k; k` and `k; n`.
@@ -36,6 +36,8 @@ pub enum FramePair {
     KeptKey,
     /// `senc(a,k); k` and `senc(b,k); k`: the key is told.
     ToldKey,
+    /// `senc(n,k); k` and `m; k`: only a ciphertext is opened.
+    Ciphertext,
 }
 
 /// Whether the rules make an accepted theory.
@@ -68,5 +70,6 @@ pub fn are_told_apart(pair: FramePair) -> bool
         FramePair::Repetition => true,
         FramePair::KeptKey => false,
         FramePair::ToldKey => true,
+        FramePair::Ciphertext => true,
     }
 }

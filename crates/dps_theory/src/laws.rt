@@ -1,5 +1,5 @@
 //! The laws of evaluation and static equivalence. Each function does nothing: its contract is the law.
-ghost use Rattle.dps_theory.specs.Laws.{EvaluatesAtMostOnce, PlainStays, ValuesArePlain, PlainRulesAreKept, ReplacedNamesEvaluate, ReplacedNamesReflect, StaticallyReflexive, StaticallySymmetric, StaticallyTransitive, PrefixesStayEquivalent, SeparatedAreNotEquivalent, EquivalenceIsOfValues};
+ghost use Rattle.dps_theory.specs.Laws.{EvaluatesAtMostOnce, PlainStays, ValuesArePlain, ValuesHoldNoNewLeaf, PlainRulesAreKept, ReplacedNamesEvaluate, ReplacedNamesReflect, StaticallyReflexive, StaticallySymmetric, StaticallyTransitive, PrefixesStayEquivalent, SeparatedAreNotEquivalent, EquivalenceIsOfValues, UndeclaredNamesAreUnseen};
 
 /// Under an accepted theory a term evaluates to at most one value.
 pub fn evaluates_at_most_once()
@@ -14,6 +14,11 @@ pub fn plain_stays()
 /// Where the rules hold declared names and variables alone, what a term evaluates to evaluates to itself.
 pub fn values_are_plain()
     ensures { ValuesArePlain }
+{}
+
+/// A value holds no leaf but those of its term and of the right sides of rules.
+pub fn values_hold_no_new_leaf()
+    ensures { ValuesHoldNoNewLeaf }
 {}
 
 /// Rules of declared names and variables are left by whatever leaves the declared names.
@@ -59,4 +64,9 @@ pub fn separated_are_not_equivalent()
 /// Under an accepted theory static equivalence compares the values of recipes.
 pub fn equivalence_is_of_values()
     ensures { EquivalenceIsOfValues }
+{}
+
+/// Names that stand neither in the frames nor in the rules matter to no static equivalence.
+pub fn undeclared_names_are_unseen()
+    ensures { UndeclaredNamesAreUnseen }
 {}

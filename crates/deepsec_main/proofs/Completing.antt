@@ -1,0 +1,118 @@
+-- Where nothing of the outside fails, the words and the file decide the status.
+use Rattle.std.proofs.Common.{◌≡◌, ◌≢◌, ◌⊎◌, ℕ, ◌+◌, ◌<◌, ◌≤◌, List, [], ◌∷◌, length, Option, Some, None, refl, sym, ◌∙◌, ap, subst, inl, inr, arith}
+use Rattle.std.specs.Prelude.{IfSome}
+use Rattle.dps_io.specs.Counts.{Rose}
+use Rattle.dps_small.specs.Meaning.{Means, MeansEquivalent, MeansNothing}
+use Rattle.deepsec_main.specs.declared.command.Command.{Command}
+use Rattle.deepsec_main.specs.declared.command.Command.TheVariants.{Check}
+use Rattle.deepsec_main.specs.declared.outcome.Outcome.{Outcome}
+use Rattle.deepsec_main.specs.declared.outcome.Outcome.TheVariants.{Equivalent, Refused, Stopped, NoMemory}
+use Rattle.deepsec_main.specs.declared.outcome.StopName.TheVariants.{TooLong, OpenFault, ReadFault, WordsRefused}
+use Rattle.deepsec_main.specs.declared.outcome.Cause.TheVariants.{NotBuilt}
+use Rattle.deepsec_main.specs.Words.{word_at, HasPlan, IsFirstWrong}
+use Rattle.deepsec_main.specs.Reports.{status_of}
+use Rattle.deepsec_main.specs.Answers.{limit, ChecksWord, HasReadText, IsTooLong, HasFault, IsCaused, IsReported, IsWritten, IsCutOff, IsFaultless, NamesText, IsOr, IsComplete}
+
+module _ {F W : Type 0} (told : F → List ℕ → Option (List ℕ)) (taken open_faults read_faults : F → ℕ) (written : W → Option (List ℕ)) (faults : W → ℕ) (words : List (List ℕ)) (old new : F) (before after : W) where
+  abbrev Faultless : Type 0
+  Faultless = IsFaultless told open_faults read_faults faults old new before after
+
+  abbrev Named : List ℕ → Type 0
+  Named bytes = NamesText told open_faults read_faults faults words old bytes
+
+  -- without a write fault the status is the outcome's
+  own_status : (outcome : Outcome) (status : ℕ) → IsReported written faults before after outcome status → ¬ Rose (faults before) (faults after) → status ≡ status_of outcome
+  own_status outcome status (inl w) n = w.status_is
+  own_status outcome status (inr c) n = absurd (n c.rose)
+
+  -- the words name one file
+  one_file : (m n : ℕ) → ChecksWord words m → ChecksWord words n → m ≡ n
+  one_file m n p q = let e : ◌≡◌ {A = List ℕ} (m ∷ []) (n ∷ []) = p.1 ∙ sym q.1 in cc
+
+  -- what was read of a file that is told is what is told
+  told_read : (bytes : List ℕ) (number : ℕ) (P : List ℕ → Type 0) → Named bytes → HasReadText (told old) (taken new) words number P → P bytes
+  told_read bytes number P n r =
+      let same : number ≡ n.number = one_file number n.number r.planned n.planned in
+      let is : told old (word_at words number) ≡ Some bytes = ap (λ m. told old (word_at words m)) same ∙ n.is_told in
+      let text : r.text ≡ bytes = subst (λ (o : Option (List ℕ)). IfSome o (λ b. r.text ≡ b)) is r.told_text in
+      subst P text r.means
+
+  told_short : (bytes : List ℕ) (number : ℕ) (P : List ℕ → Type 0) → Named bytes → HasReadText (told old) (taken new) words number P → length bytes ≤ limit
+  told_short bytes number P n r =
+      let same : number ≡ n.number = one_file number n.number r.planned n.planned in
+      let is : told old (word_at words number) ≡ Some bytes = ap (λ m. told old (word_at words m)) same ∙ n.is_told in
+      let text : r.text ≡ bytes = subst (λ (o : Option (List ℕ)). IfSome o (λ b. r.text ≡ b)) is r.told_text in
+      subst (λ (b : List ℕ). length b ≤ limit) text r.short
+
+  told_longer : (bytes : List ℕ) (number : ℕ) → Named bytes → IsTooLong (told old) (taken new) words number → limit < length bytes
+  told_longer bytes number n r =
+      let same : number ≡ n.number = one_file number n.number r.planned n.planned in
+      let is : told old (word_at words number) ≡ Some bytes = ap (λ m. told old (word_at words m)) same ∙ n.is_told in
+      subst (λ (o : Option (List ℕ)). IfSome o (λ b. limit < length b)) is r.longer
+
+  both_meanings : (bytes : List ℕ) → MeansEquivalent bytes → MeansNothing bytes → ⊥
+  both_meanings bytes e n = n.nothing e.problem e.means
+
+  abbrev Caused : Outcome → Type 0
+  Caused outcome = IsCaused told taken open_faults read_faults words old new outcome
+
+  -- which outcome a file has whose text means a problem
+  equivalent_only : (outcome : Outcome) (bytes : List ℕ) → Named bytes → length bytes ≤ limit → MeansEquivalent bytes → Faultless → Caused outcome → (outcome ≡ Equivalent) ⊎ (outcome ≡ NoMemory)
+  equivalent_only Equivalent bytes n l m f c = inl refl
+  equivalent_only (Refused file line column NotBuilt) bytes n l m f c = absurd (both_meanings bytes m (told_read bytes file MeansNothing n c.0))
+  equivalent_only (Stopped TooLong word) bytes n l m f c = absurd (let k = told_longer bytes word n c in omega arith)
+  equivalent_only (Stopped OpenFault word) bytes n l m f c = absurd (f.no_open_fault c.rose)
+  equivalent_only (Stopped ReadFault word) bytes n l m f c = absurd (f.no_read_fault c.rose)
+  equivalent_only (Stopped WordsRefused word) bytes n l m f c = absurd (c.no_plan Check (n.number ∷ []) n.planned)
+  equivalent_only NoMemory bytes n l m f c = inr refl
+
+  refused_status : (outcome : Outcome) (bytes : List ℕ) → Named bytes → length bytes ≤ limit → MeansNothing bytes → Faultless → Caused outcome → (status_of outcome ≡ 3) ⊎ (outcome ≡ NoMemory)
+  refused_status Equivalent bytes n l m f c = absurd (both_meanings bytes (told_read bytes c.0 MeansEquivalent n c.1) m)
+  refused_status (Refused file line column NotBuilt) bytes n l m f c = inl refl
+  refused_status (Stopped TooLong word) bytes n l m f c = absurd (let k = told_longer bytes word n c in omega arith)
+  refused_status (Stopped OpenFault word) bytes n l m f c = absurd (f.no_open_fault c.rose)
+  refused_status (Stopped ReadFault word) bytes n l m f c = absurd (f.no_read_fault c.rose)
+  refused_status (Stopped WordsRefused word) bytes n l m f c = absurd (c.no_plan Check (n.number ∷ []) n.planned)
+  refused_status NoMemory bytes n l m f c = inr refl
+
+  long_status : (outcome : Outcome) (bytes : List ℕ) → Named bytes → limit < length bytes → Faultless → Caused outcome → (status_of outcome ≡ 8) ⊎ (outcome ≡ NoMemory)
+  long_status Equivalent bytes n l f c = absurd (let k = told_short bytes c.0 MeansEquivalent n c.1 in omega arith)
+  long_status (Refused file line column NotBuilt) bytes n l f c = absurd (let k = told_short bytes file MeansNothing n c.0 in omega arith)
+  long_status (Stopped TooLong word) bytes n l f c = inl refl
+  long_status (Stopped OpenFault word) bytes n l f c = absurd (f.no_open_fault c.rose)
+  long_status (Stopped ReadFault word) bytes n l f c = absurd (f.no_read_fault c.rose)
+  long_status (Stopped WordsRefused word) bytes n l f c = absurd (c.no_plan Check (n.number ∷ []) n.planned)
+  long_status NoMemory bytes n l f c = inr refl
+
+  abbrev Planless : Type 0
+  Planless = (command : Command) (numbers : List ℕ) → ¬ HasPlan words command numbers
+
+  planless_status : (outcome : Outcome) → Planless → Caused outcome → (status_of outcome ≡ 7) ⊎ (outcome ≡ NoMemory)
+  planless_status Equivalent n c = absurd (n Check (c.0 ∷ []) c.1.planned)
+  planless_status (Refused file line column NotBuilt) n c = absurd (n Check (file ∷ []) c.0.planned)
+  planless_status (Stopped TooLong word) n c = absurd (n Check (word ∷ []) c.planned)
+  planless_status (Stopped OpenFault word) n c = absurd (n Check (word ∷ []) c.planned)
+  planless_status (Stopped ReadFault word) n c = absurd (n Check (word ∷ []) c.planned)
+  planless_status (Stopped WordsRefused word) n c = inl refl
+  planless_status NoMemory n c = inr refl
+
+  status_or : (outcome : Outcome) (status want : ℕ) → status ≡ status_of outcome → (status_of outcome ≡ want) ⊎ (outcome ≡ NoMemory) → (status ≡ want) ⊎ (status ≡ status_of NoMemory)
+  status_or outcome status want e (inl s) = inl (e ∙ s)
+  status_or outcome status want e (inr n) = inr (e ∙ ap status_of n)
+
+  equivalent_status : (outcome : Outcome) → (outcome ≡ Equivalent) ⊎ (outcome ≡ NoMemory) → (status_of outcome ≡ 0) ⊎ (outcome ≡ NoMemory)
+  equivalent_status outcome (inl e) = inl (ap status_of e)
+  equivalent_status outcome (inr n) = inr n
+
+  pub complete : (outcome : Outcome) (status : ℕ) → Caused outcome → IsReported written faults before after outcome status → IsComplete told open_faults read_faults faults words old new before after status
+  complete outcome status c r = record {
+    equivalent = λ bytes n l m f. status_or outcome status 0 (own_status outcome status r f.no_write_fault) (equivalent_status outcome (equivalent_only outcome bytes n l m f c));
+    refused = λ bytes n l m f. status_or outcome status 3 (own_status outcome status r f.no_write_fault) (refused_status outcome bytes n l m f c);
+    too_long = λ bytes n l f. status_or outcome status 8 (own_status outcome status r f.no_write_fault) (long_status outcome bytes n l f c);
+    words_refused = λ n f. status_or outcome status 7 (own_status outcome status r f.no_write_fault) (planless_status outcome n c);
+  }
+
+  -- want of memory needs no cause
+  pub caused_kept : (one two : Outcome) → (two ≡ one) ⊎ (two ≡ NoMemory) → Caused one → Caused two
+  caused_kept one two (inl e) c = subst Caused (sym e) c
+  caused_kept one two (inr e) c = subst Caused (sym e) tt

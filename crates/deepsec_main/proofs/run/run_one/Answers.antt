@@ -1,0 +1,17 @@
+use Rattle.deepsec_main.specs.Words.{texts}
+use Rattle.deepsec_main.proofs.Completing.{complete, caused_kept}
+use Rattle.deepsec_main.proofs.run.run_one.Goals as goal
+
+pub returns-clause-complete : goal.returns-clause-complete
+returns-clause-complete g c =
+    let told = g.F.Files.told in
+    let taken = g.F.Files.taken in
+    let opened = g.F.Files.open_faults in
+    let read = g.F.Files.read_faults in
+    let written = g.W.Sink.written in
+    let faults = g.W.Sink.faults in
+    let words = texts c.args.words.now in
+    let old = c.args.files.now in
+    let new = c.outcome-reached.new.files in
+    let caused = caused_kept told taken opened read written faults words old new c.args.sink.now c.report.new.sink c.outcome-reached.result c.report.result.0 c.report.ensures.kept c.outcome-reached.ensures in
+    complete told taken opened read written faults words old new c.args.sink.now c.report.new.sink c.report.result.0 c.report.result.1.code caused c.report.ensures.reported

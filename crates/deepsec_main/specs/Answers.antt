@@ -1,0 +1,101 @@
+-- The outcomes and their causes. What a file object shows of itself is given as functions: what it tells of each name,
+-- how many bytes of the open file were read, and its counts of faults.
+use Rattle.std.specs.Prelude.{◌≡◌, ◌⊎◌, ℕ, ◌+◌, ◌<◌, ◌≤◌, List, [], ◌∷◌, length, Option, Some, IfSome, ⊤}
+use Rattle.std.specs.Io.KnownBytes.{append_known}
+use Rattle.dps_io.specs.Counts.{Rose}
+use Rattle.dps_io.specs.Bytes.{AppendsFront}
+use Rattle.dps_small.specs.Meaning.{MeansEquivalent, MeansNothing}
+use Rattle.deepsec_main.specs.declared.command.Command.{Command}
+use Rattle.deepsec_main.specs.declared.command.Command.TheVariants.{Check}
+use Rattle.deepsec_main.specs.declared.outcome.Outcome.{Outcome}
+use Rattle.deepsec_main.specs.declared.outcome.Outcome.TheVariants.{Equivalent, Refused, Stopped, NoMemory}
+use Rattle.deepsec_main.specs.declared.outcome.StopName.{StopName}
+use Rattle.deepsec_main.specs.declared.outcome.StopName.TheVariants.{TooLong, OpenFault, ReadFault, WordsRefused}
+use Rattle.deepsec_main.specs.declared.outcome.Cause.{Cause}
+use Rattle.deepsec_main.specs.declared.outcome.Cause.TheVariants.{NotBuilt}
+use Rattle.deepsec_main.specs.Words.{word_at, HasPlan, IsFirstWrong}
+use Rattle.deepsec_main.specs.Reports.{report_text, status_of}
+
+-- the most bytes of a file
+abbrev pub limit : ℕ
+limit = 1048576
+
+-- the words ask to check the file of this word's number
+abbrev pub ChecksWord : List (List ℕ) → ℕ → Type 0
+ChecksWord words number = HasPlan words Check (number ∷ [])
+
+-- The file that the words name was read to its end, and its text is so. Where the object tells the file's bytes, the
+-- text is those.
+pub record HasReadText (told : List ℕ → Option (List ℕ)) (taken : ℕ) (words : List (List ℕ)) (number : ℕ) (P : List ℕ → Type 0) : Type 0 where
+  pub planned : ChecksWord words number
+  pub text : List ℕ
+  pub told_text : IfSome (told (word_at words number)) (λ bytes. text ≡ bytes)
+  pub taken_all : taken ≡ length text
+  pub short : length text ≤ limit
+  pub means : P text
+
+-- the file that the words name has more bytes than the limit, and just one more was read
+pub record IsTooLong (told : List ℕ → Option (List ℕ)) (taken : ℕ) (words : List (List ℕ)) (number : ℕ) : Type 0 where
+  pub planned : ChecksWord words number
+  pub taken_more : taken ≡ limit + 1
+  pub longer : IfSome (told (word_at words number)) (λ bytes. limit < length bytes)
+
+-- a fault of the file that the words name was counted
+pub record HasFault (before now taken : ℕ) (words : List (List ℕ)) (number : ℕ) : Type 0 where
+  pub planned : ChecksWord words number
+  pub rose : Rose before now
+  pub taken_less : taken ≤ limit
+
+module _ {F : Type 0} (told : F → List ℕ → Option (List ℕ)) (taken open_faults read_faults : F → ℕ) where
+  -- what stopped the run
+  abbrev pub IsStopped : List (List ℕ) → F → F → StopName → ℕ → Type 0
+  IsStopped words old new TooLong word = IsTooLong (told old) (taken new) words word
+  IsStopped words old new OpenFault word = HasFault (open_faults old) (open_faults new) (taken new) words word
+  IsStopped words old new ReadFault word = HasFault (read_faults old) (read_faults new) (taken new) words word
+  IsStopped words old new WordsRefused word = IsFirstWrong words word
+
+  -- The cause of each outcome, in the run of these words from the files as they were to the files as they are.
+  abbrev pub IsCaused : List (List ℕ) → F → F → Outcome → Type 0
+  IsCaused words old new Equivalent = (number : ℕ) × HasReadText (told old) (taken new) words number MeansEquivalent
+  IsCaused words old new (Refused file line column NotBuilt) = HasReadText (told old) (taken new) words file MeansNothing × (line ≡ 1) × (column ≡ 1)
+  IsCaused words old new (Stopped name word) = IsStopped words old new name word
+  IsCaused words old new NoMemory = ⊤
+
+-- The outcome is reported: its text is written behind what was written, and its status is answered. Or a write failed,
+-- behind a front of the text.
+module _ {W : Type 0} (written : W → Option (List ℕ)) (faults : W → ℕ) where
+  pub record IsWritten (old new : W) (outcome : Outcome) (status : ℕ) : Type 0 where
+    pub all : written new ≡ append_known (written old) (report_text outcome)
+    pub status_is : status ≡ status_of outcome
+
+  pub record IsCutOff (old new : W) (outcome : Outcome) (status : ℕ) : Type 0 where
+    pub front : AppendsFront (written old) (written new) (report_text outcome)
+    pub rose : Rose (faults old) (faults new)
+    pub status_is : status ≡ 5
+
+  abbrev pub IsReported : W → W → Outcome → ℕ → Type 0
+  IsReported old new outcome status = IsWritten old new outcome status ⊎ IsCutOff old new outcome status
+
+-- Where nothing of the outside fails, the outcome is that of the words and of the file that they name, or want of
+-- memory.
+module _ {F W : Type 0} (told : F → List ℕ → Option (List ℕ)) (open_faults read_faults : F → ℕ) (faults : W → ℕ) where
+  -- no fault was counted
+  pub record IsFaultless (old new : F) (before after : W) : Type 0 where
+    pub no_open_fault : ¬ Rose (open_faults old) (open_faults new)
+    pub no_read_fault : ¬ Rose (read_faults old) (read_faults new)
+    pub no_write_fault : ¬ Rose (faults before) (faults after)
+
+  -- the words name a file that the object tells
+  pub record NamesText (words : List (List ℕ)) (old : F) (bytes : List ℕ) : Type 0 where
+    pub number : ℕ
+    pub planned : ChecksWord words number
+    pub is_told : told old (word_at words number) ≡ Some bytes
+
+  abbrev pub IsOr : ℕ → ℕ → Type 0
+  IsOr status want = (status ≡ want) ⊎ (status ≡ status_of NoMemory)
+
+  pub record IsComplete (words : List (List ℕ)) (old new : F) (before after : W) (status : ℕ) : Type 0 where
+    pub equivalent : (bytes : List ℕ) → NamesText words old bytes → length bytes ≤ limit → MeansEquivalent bytes → IsFaultless old new before after → IsOr status 0
+    pub refused : (bytes : List ℕ) → NamesText words old bytes → length bytes ≤ limit → MeansNothing bytes → IsFaultless old new before after → IsOr status 3
+    pub too_long : (bytes : List ℕ) → NamesText words old bytes → limit < length bytes → IsFaultless old new before after → IsOr status 8
+    pub words_refused : ((command : Command) (numbers : List ℕ) → ¬ HasPlan words command numbers) → IsFaultless old new before after → IsOr status 7

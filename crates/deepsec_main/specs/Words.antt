@@ -1,0 +1,51 @@
+-- What the words of the command line ask for.
+use Rattle.std.specs.Prelude.{◌≡◌, ℕ, zero, suc, ◌+◌, ◌<◌, ◌≤◌, List, [], ◌∷◌, ◌++◌, codes, take, length, String, string_bytes, map, unwrap_or, slice_get, ⊤}
+use Rattle.std.specs.declared.alloc.Global.{Global}
+use Rattle.deepsec_main.specs.declared.command.Command.{Command}
+use Rattle.deepsec_main.specs.declared.command.Command.TheVariants.{Check}
+use Rattle.deepsec_main.specs.declared.command.PlanRefusal.{PlanRefusal}
+use Rattle.deepsec_main.specs.declared.command.PlanRefusal.TheVariants.{Wrong, Memory}
+
+abbrev pub texts : List (String Global) → List (List ℕ)
+texts words = map (λ word. string_bytes word) words
+
+-- the word of that number, from 1
+abbrev pub word_at : List (List ℕ) → ℕ → List ℕ
+word_at words zero = []
+word_at words (suc n) = unwrap_or (slice_get words n) []
+
+-- the word begins as an option does
+abbrev pub IsOption : List ℕ → Type 0
+IsOption word = (rest : List ℕ) × (word ≡ codes "--" ++ rest)
+
+-- `check FILE`
+pub record AsksToCheck (words : List (List ℕ)) : Type 0 where
+  pub file : List ℕ
+  pub all : words ≡ codes "check" ∷ file ∷ []
+  pub no_option : ¬ IsOption file
+
+-- the words ask for the command; the numbers, from 1, are those of the words that name files
+abbrev pub HasPlan : List (List ℕ) → Command → List ℕ → Type 0
+HasPlan words Check numbers = AsksToCheck words × (numbers ≡ 2 ∷ [])
+
+-- the words can go on to words with a plan
+pub record CanGoOn (front : List (List ℕ)) : Type 0 where
+  pub more : List (List ℕ)
+  pub command : Command
+  pub numbers : List ℕ
+  pub plan : HasPlan (front ++ more) command numbers
+
+-- The words have no plan, and this is the number, from 1, of the first that is wrong: with the words before it one can
+-- go on to words with a plan, and with it one can not. A word that is missing has the number after the last.
+pub record IsFirstWrong (words : List (List ℕ)) (number : ℕ) : Type 0 where
+  pub before : ℕ
+  pub is_next : number ≡ before + 1
+  pub within : before ≤ length words
+  pub right : CanGoOn (take before words)
+  pub wrong : before < length words → ¬ CanGoOn (take (before + 1) words)
+  pub no_plan : (command : Command) (numbers : List ℕ) → ¬ HasPlan words command numbers
+
+-- why the words have no plan; want of memory needs no cause
+abbrev pub RefusesWords : List (List ℕ) → PlanRefusal → Type 0
+RefusesWords words (Wrong number) = IsFirstWrong words number
+RefusesWords words Memory = ⊤

@@ -1,0 +1,27 @@
+//! Commands and plans.
+use thiserror::Error;
+
+/// What to do.
+#[derive(Clone, Copy, Debug, PartialEq, Eq)]
+pub enum Command {
+    /// `check FILE`: whether the two processes of a file are trace equivalent.
+    Check,
+}
+
+/// A command, and the numbers, from 1, of the words that name its files.
+#[derive(Drop, Debug)]
+pub struct Plan {
+    pub command: Command,
+    pub words: Vec<u32>,
+}
+
+/// Why words have no plan.
+#[derive(Clone, Copy, Debug, PartialEq, Eq, Error)]
+pub enum PlanRefusal {
+    /// The first wrong word, by its number from 1. A word that is missing has the number after the last.
+    #[error("word {0} is wrong")]
+    Wrong(u32),
+    /// There was no memory for the plan.
+    #[error("out of memory")]
+    Memory,
+}

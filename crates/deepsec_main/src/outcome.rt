@@ -1,0 +1,42 @@
+//! What a run of the program comes to.
+
+/// What the program answers, apart from a write fault.
+#[derive(Clone, Copy, Debug, PartialEq, Eq)]
+pub enum Outcome {
+    /// The two processes of the file are trace equivalent.
+    Equivalent,
+    /// A file is refused, at this line and column, each counted from 1. It is named by its word's number.
+    Refused {
+        file: u32,
+        line: u32,
+        column: u32,
+        cause: Cause,
+    },
+    /// The words, or the file of this word, stopped the run. Words are numbered from 1.
+    Stopped {
+        name: StopName,
+        word: u32,
+    },
+    /// There was no memory.
+    NoMemory,
+}
+
+/// What stopped a run before its file was judged.
+#[derive(Clone, Copy, Debug, PartialEq, Eq)]
+pub enum StopName {
+    /// The file has more than 1,048,576 bytes.
+    TooLong,
+    /// The file could not be opened.
+    OpenFault,
+    /// The file was opened, and a read of it failed.
+    ReadFault,
+    /// The words ask for nothing; the one that is named is the first wrong one.
+    WordsRefused,
+}
+
+/// Why a file is refused.
+#[derive(Clone, Copy, Debug, PartialEq, Eq)]
+pub enum Cause {
+    /// The text is none of those that are judged yet.
+    NotBuilt,
+}

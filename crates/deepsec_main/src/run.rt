@@ -1,0 +1,131 @@
+//! The whole program, over the words, the files and the sink that it is given.
+ghost use Rattle.std.specs.Prelude.{◌≡◌, ◌⊎◌, ℕ};
+ghost use Rattle.dps_io.specs.Counts.{Rose};
+ghost use Rattle.dps_small.specs.Meaning.{MeansEquivalent, MeansNothing};
+ghost use Rattle.deepsec_main.specs.Words.{texts, IsFirstWrong};
+ghost use Rattle.deepsec_main.specs.Reports.{report_text};
+ghost use Rattle.deepsec_main.specs.Answers.{ChecksWord, HasReadText, IsTooLong, IsCaused, IsReported, IsComplete};
+ghost use Rattle.deepsec_main.specs.declared.outcome.Outcome.{Outcome as AnOutcome};
+
+use crate::command::{Command, PlanRefusal};
+use crate::outcome::{Cause, Outcome, StopName};
+use crate::report::{MEMORY_TEXT, status, text};
+use crate::words::{plan, word_of};
+use dps_io::{Files, ReadRefusal, Sink, read_all, write_all};
+use dps_small::means_equivalent;
+use std::alloc::{AllocError, Global};
+
+/// The most bytes of a file.
+const LIMIT: usize = 1_048_576;
+
+/// The status of a run whose text was not written whole.
+const WRITE_FAULT: u8 = 5;
+
+/// What the program ends with: one of the numbers of the table of statuses in `docs/reports.md`.
+#[derive(Clone, Copy, Debug, PartialEq, Eq)]
+pub struct Status {
+    pub code: u8,
+}
+
+/// What checking the file of this word's number comes to.
+fn check<F: Files>(alloc: Global, words: &[String], file: u32, files: &mut F) -> Outcome
+    requires { ChecksWord (texts words.now) file }
+    ensures { IsCaused F.told F.taken F.open_faults F.read_faults (texts words.now) files.old files.new result }
+{
+    let stopped = |name: StopName| Outcome::Stopped { name, word: file };
+    let bytes = match read_all(alloc, files, word_of(words, file), LIMIT) {
+        Err(ReadRefusal::OpenFault) => return stopped(StopName::OpenFault),
+        Err(ReadRefusal::ReadFault) => return stopped(StopName::ReadFault),
+        Err(ReadRefusal::TooLong) => return stopped(StopName::TooLong),
+        Err(ReadRefusal::Memory) => return Outcome::NoMemory,
+        Ok(bytes) => bytes,
+    };
+    match means_equivalent(alloc, &bytes) {
+        Err(AllocError) => Outcome::NoMemory,
+        Ok(true) => Outcome::Equivalent,
+        Ok(false) => Outcome::Refused {
+            file,
+            line: 1,
+            column: 1,
+            cause: Cause::NotBuilt,
+        },
+    }
+}
+
+/// What the words come to.
+fn outcome<F: Files>(alloc: Global, words: &[String], files: &mut F) -> Outcome
+    ensures { IsCaused F.told F.taken F.open_faults F.read_faults (texts words.now) files.old files.new result }
+{
+    match plan(alloc, words) {
+        Err(PlanRefusal::Wrong(word)) => Outcome::Stopped {
+            name: StopName::WordsRefused,
+            word,
+        },
+        Err(PlanRefusal::Memory) => Outcome::NoMemory,
+        Ok(plan) => match plan.command {
+            Command::Check => check(alloc, words, plan.words[0], files),
+        },
+    }
+}
+
+/// Writes the text of an outcome, and answers its status.
+fn send<W: Sink>(sink: &mut W, bytes: &[u8], reached: Outcome) -> Status
+    requires { bytes.now ≡ report_text reached }
+    ensures { IsReported W.written W.faults sink.old sink.new reached result.code }
+{
+    match write_all(sink, bytes) {
+        Ok(()) => Status {
+            code: status(reached),
+        },
+        Err(_) => Status { code: WRITE_FAULT },
+    }
+}
+
+/// Reports an outcome, or want of memory where its text finds none.
+fn report<W: Sink>(alloc: Global, sink: &mut W, reached: Outcome) -> (Outcome, Status)
+    ensures kept { (result.0 ≡ reached) ⊎ (result.0 ≡ Outcome.NoMemory) }
+    ensures reported { IsReported W.written W.faults sink.old sink.new result.0 result.1.code }
+{
+    match text(alloc, reached) {
+        Ok(text) => (reached, send(sink, text.as_bytes(), reached)),
+        Err(AllocError) => (
+            Outcome::NoMemory,
+            send(sink, MEMORY_TEXT, Outcome::NoMemory),
+        ),
+    }
+}
+
+/// All that the program does with these words, those after its name, with these files and this sink.
+pub fn run_one<F: Files, W: Sink>(
+    alloc: Global,
+    words: &[String],
+    files: &mut F,
+    sink: &mut W,
+) -> Status
+    // The headline: the text of the file means a problem, and its two processes are trace equivalent.
+    ensures equivalent { result.code ≡ 0 → (file : ℕ) × HasReadText (F.told files.old) (F.taken files.new) (texts words.now) file MeansEquivalent }
+
+    // Each other status comes only from its cause.
+    ensures refused { result.code ≡ 3 → (file : ℕ) × HasReadText (F.told files.old) (F.taken files.new) (texts words.now) file MeansNothing }
+    ensures file_fault { result.code ≡ 4 → Rose (F.open_faults files.old) (F.open_faults files.new) ⊎ Rose (F.read_faults files.old) (F.read_faults files.new) }
+    ensures write_fault { result.code ≡ 5 → Rose (W.faults sink.old) (W.faults sink.new) }
+    ensures words_refused { result.code ≡ 7 → (wrong : ℕ) × IsFirstWrong (texts words.now) wrong }
+    ensures too_long { result.code ≡ 8 → (file : ℕ) × IsTooLong (F.told files.old) (F.taken files.new) (texts words.now) file }
+
+    // Some outcome has its cause, and is reported.
+    ensures answer { (outcome : AnOutcome) × IsCaused F.told F.taken F.open_faults F.read_faults (texts words.now) files.old files.new outcome
+        × IsReported W.written W.faults sink.old sink.new outcome result.code }
+
+    // Where nothing fails, the words and the file decide the status.
+    ensures complete { IsComplete F.told F.open_faults F.read_faults W.faults (texts words.now) files.old files.new sink.old sink.new result.code }
+{
+    let reached = outcome(alloc, words, files);
+    report(alloc, sink, reached).1
+}
+
+/// What is answered where not even the words found memory.
+pub fn without_memory<W: Sink>(sink: &mut W) -> Status
+    ensures { IsReported W.written W.faults sink.old sink.new Outcome.NoMemory result.code }
+{
+    send(sink, MEMORY_TEXT, Outcome::NoMemory)
+}

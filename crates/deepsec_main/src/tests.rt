@@ -1,0 +1,184 @@
+//! Whole runs over files and sinks in memory.
+use crate::run::run_one;
+use dps_io::{MemFiles, MemSink};
+use std::alloc::Global;
+use std::test::Fail;
+
+const EQUIVALENT: &str = "report 1\nresult: equivalent\n";
+
+const NOT_BUILT: &str = "report 1\nresult: refused\nfile: 2\nat: 1:1\ncause: not built\n";
+
+const SMALLEST: &str = "query trace_equiv(0,0).\n";
+
+// Runs the words with a file F of this text, with these failing calls of the files and of the sink, which takes 4
+// bytes a call.
+fn run(
+    alloc: Global,
+    words: &[&str],
+    text: &[u8],
+    bad_files: &[u64],
+    bad_writes: &[u64],
+) -> Result<(u8, Vec<u8>), Fail> {
+    let mut given = Vec::new(alloc);
+    for word in words {
+        given.push(String::from_str(alloc, *word)?)?;
+    }
+    let mut all = Vec::new(alloc);
+    all.push((String::from_str(alloc, "F")?, Vec::from_slice(alloc, text)?))?;
+    let mut files = MemFiles::new(all, Vec::from_slice(alloc, bad_files)?);
+    let mut sink = MemSink::new(alloc, 4, 1000, Vec::from_slice(alloc, bad_writes)?)?;
+    let status = run_one(alloc, &given, &mut files, &mut sink);
+    Ok((status.code, Vec::from_slice(alloc, sink.written())?))
+}
+
+#[test]
+fn texts_have_their_reports(rt: HostRuntime) -> Result<(), Fail> {
+    for (text, code, report) in [
+        (SMALLEST, 0, EQUIVALENT),
+        ("query trace_equiv( (0|0) | ((0)),\t0|0|0).", 0, EQUIVALENT),
+        ("(* (0 *) query(**)trace_equiv(0,0) .", 0, EQUIVALENT),
+        ("query trace_equiv(0|,0).\n", 3, NOT_BUILT),
+        ("querytrace_equiv(0,0).\n", 3, NOT_BUILT),
+        ("query trace_equiv(00,0).\n", 3, NOT_BUILT),
+        ("query trace_equiv(1,0).\n", 3, NOT_BUILT),
+        ("query trace_equiv(in(c,x),0).\n", 3, NOT_BUILT),
+        (
+            "query trace_equiv(0,0).\nquery trace_equiv(0,0).\n",
+            3,
+            NOT_BUILT,
+        ),
+        ("query trace_equiv(0,0)\n", 3, NOT_BUILT),
+        ("", 3, NOT_BUILT),
+    ] {
+        let (got, wrote) = run(rt.alloc(), &["check", "F"], text.as_bytes(), &[], &[])?;
+        assert_eq!(rt; got, code, "at {text}");
+        assert_eq!(rt; wrote.as_slice(), report.as_bytes());
+    }
+    Ok(())
+}
+
+#[test]
+fn words_and_faults_have_their_reports(rt: HostRuntime) -> Result<(), Fail> {
+    for (words, bad_files, bad_writes, code, report) in [
+        (
+            ["check", "G"].as_slice(),
+            [].as_slice(),
+            [].as_slice(),
+            4,
+            "report 1\nresult: open fault\nword: 2\n",
+        ),
+        (
+            ["check", "F"].as_slice(),
+            [1].as_slice(),
+            [].as_slice(),
+            4,
+            "report 1\nresult: open fault\nword: 2\n",
+        ),
+        (
+            ["check", "F"].as_slice(),
+            [2].as_slice(),
+            [].as_slice(),
+            4,
+            "report 1\nresult: read fault\nword: 2\n",
+        ),
+        (
+            ["check", "F"].as_slice(),
+            [].as_slice(),
+            [2].as_slice(),
+            5,
+            "repo",
+        ),
+        (
+            [].as_slice(),
+            [].as_slice(),
+            [].as_slice(),
+            7,
+            "report 1\nresult: words refused\nword: 1\n",
+        ),
+        (
+            ["chec", "F"].as_slice(),
+            [].as_slice(),
+            [].as_slice(),
+            7,
+            "report 1\nresult: words refused\nword: 1\n",
+        ),
+        (
+            ["check"].as_slice(),
+            [].as_slice(),
+            [].as_slice(),
+            7,
+            "report 1\nresult: words refused\nword: 2\n",
+        ),
+        (
+            ["check", "--steps", "F"].as_slice(),
+            [].as_slice(),
+            [].as_slice(),
+            7,
+            "report 1\nresult: words refused\nword: 2\n",
+        ),
+        (
+            ["check", "F", "G"].as_slice(),
+            [].as_slice(),
+            [].as_slice(),
+            7,
+            "report 1\nresult: words refused\nword: 3\n",
+        ),
+    ] {
+        let (got, wrote) = run(
+            rt.alloc(),
+            words,
+            SMALLEST.as_bytes(),
+            bad_files,
+            bad_writes,
+        )?;
+        assert_eq!(rt; got, code, "for {report}");
+        assert_eq!(rt; wrote.as_slice(), report.as_bytes());
+    }
+    Ok(())
+}
+
+// A text of so many copies of one byte, and then another text.
+fn padded(alloc: Global, byte: u8, count: usize, text: &str) -> Result<Vec<u8>, Fail> {
+    let mut bytes = Vec::with_capacity(alloc, count)?;
+    for _ in 0..count {
+        bytes.push(byte)?;
+    }
+    bytes.extend_from_slice(text.as_bytes())?;
+    Ok(bytes)
+}
+
+#[test]
+fn a_file_has_at_most_so_many_bytes(rt: HostRuntime) -> Result<(), Fail> {
+    let alloc = rt.alloc();
+    let query = "query trace_equiv(0,0).";
+    let longest = padded(alloc, b' ', 1_048_553, query)?;
+    let (code, wrote) = run(alloc, &["check", "F"], &longest, &[], &[])?;
+    assert_eq!(rt; code, 0);
+    assert_eq!(rt; wrote.as_slice(), EQUIVALENT.as_bytes());
+    let longer = padded(alloc, b' ', 1_048_554, query)?;
+    let (code, wrote) = run(alloc, &["check", "F"], &longer, &[], &[])?;
+    assert_eq!(rt; code, 8);
+    assert_eq!(rt;
+        wrote.as_slice(),
+        b"report 1\nresult: too long\nword: 2\n".as_slice()
+    );
+    Ok(())
+}
+
+#[test]
+fn deep_and_long_files_are_read(rt: HostRuntime) -> Result<(), Fail> {
+    let alloc = rt.alloc();
+    let deep = padded(alloc, b'(', 100_000, "0,0).")?;
+    let mut text = Vec::from_slice(alloc, b"query trace_equiv(")?;
+    text.extend_from_slice(&deep)?;
+    let (code, _) = run(alloc, &["check", "F"], &text, &[], &[])?;
+    assert_eq!(rt; code, 3);
+    let mut long = Vec::from_slice(alloc, b"query trace_equiv(0")?;
+    for _ in 0..500_000 {
+        long.extend_from_slice(b"|0")?;
+    }
+    long.extend_from_slice(b",0).")?;
+    let (code, _) = run(alloc, &["check", "F"], &long, &[], &[])?;
+    assert_eq!(rt; code, 0);
+    Ok(())
+}

@@ -1,0 +1,4 @@
+pub mod Parts
+pub mod Quiet
+pub mod Spans
+pub mod Meanings
