@@ -1,7 +1,9 @@
 pub mod Bags
 pub mod Substituting
 pub mod FreeVariables
+pub mod Standing
 pub mod Running
+pub mod Channels
 pub mod Tracing
 pub mod Branches
 pub mod Inverting

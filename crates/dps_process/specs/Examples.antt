@@ -1,10 +1,11 @@
 -- Small processes, over the signature and the theory of symmetric encryption.
-use Rattle.std.specs.Prelude.{◌≡◌, List, [], ◌∷◌}
+use Rattle.std.specs.Prelude.{◌≡◌, ℕ, List, [], ◌∷◌}
 use Rattle.dps_terms.specs.declared.PublicName.TheVariants.{Declared, At}
 use Rattle.dps_terms.specs.Tree.{public, Tree, leaf, app, none, more}
+use Rattle.dps_terms.specs.Signature.{shapes}
 use Rattle.dps_theory.specs.Examples.{signature, theory, over, senc, sdec, a, b, k, n, x}
-use Rattle.dps_process.specs.Process.{Process, nil, choice, conditional, bind, input, output, put}
-use Rattle.dps_process.specs.Problem.{Problem}
+use Rattle.dps_process.specs.Process.{Process, nil, parallel, choice, conditional, bind, input, output, put, term_sum}
+use Rattle.dps_process.specs.Problem.{Problem, destructors}
 use Rattle.dps_process.specs.Steps.{Action, Label, inputs, outputs, silent, Moves}
 use Rattle.dps_process.specs.declared.examples.Output.{Output}
 use Rattle.dps_process.specs.declared.examples.Output.TheVariants.{DeclaredName, PrivateName, FreeVariable, WrongArity, UndeclaredName, OwnName, UndeclaredChannel}
@@ -78,3 +79,15 @@ output_of UndeclaredChannel = output 2 a nil
 -- against `out(a,b)`
 abbrev pub with_output : Output → Problem
 with_output o = against (output_of o) (tells b)
+
+-- each form of process: `(0 + out(a,a)) | in(a,x); if x = senc(a,b) then let y = sdec(x,b) in 0 else P else 0`, where P is
+-- `out(a,senc(sdec(a,b),sdec(sdec(a,b),b)))`
+abbrev pub each_form : Process
+each_form =
+    parallel
+    (choice nil (tells a))
+    (input 0 1 (conditional x (over senc a b) (bind 2 (over sdec x b) nil (tells (over senc (over sdec a b) (over sdec (over sdec a b) b)))) nil))
+
+-- how many destructors stand in its terms
+abbrev pub each_destructor : ℕ
+each_destructor = term_sum (destructors (shapes signature)) each_form

@@ -1,15 +1,15 @@
 -- What a reader expects of steps, traces and equivalence, each stated as one fact.
-use Rattle.std.specs.Prelude.{◌≡◌, ◌≢◌, ◌⊎◌, ◌↔◌, ℕ, ◌<◌, List, [], ◌∷◌, ◌++◌}
+use Rattle.std.specs.Prelude.{◌≡◌, ◌≢◌, ◌⊎◌, ◌↔◌, ℕ, ◌<◌, List, [], ◌∷◌, ◌++◌, All, Contains}
 use Rattle.dps_branch.specs.declared.Side.{Side}
 use Rattle.dps_branch.specs.Sides.{opposite}
-use Rattle.dps_terms.specs.Tree.{Tree}
+use Rattle.dps_terms.specs.Tree.{var, Tree, StandsIn}
 use Rattle.dps_terms.specs.Signature.{Signature}
 use Rattle.dps_terms.specs.Kinds.{IsClosed}
 use Rattle.dps_theory.specs.Theory.{Theory}
-use Rattle.dps_process.specs.Process.{Process, nil, parallel, choice, part_nodes, IsFree, IsClosedProcess, put}
+use Rattle.dps_process.specs.Process.{Process, nil, parallel, choice, part_nodes, IsFree, IsClosedProcess, put, EachTerm, EachChannel, EachBinder}
 use Rattle.dps_process.specs.Problem.{Problem, side_of}
-use Rattle.dps_process.specs.Steps.{Config, Label, Action, silent, Moves, Step, AreOneBag}
-use Rattle.dps_process.specs.Traces.{Runs, Ends, Matches, AreTraceEquivalent, IsEquivalent, IsTraceOf, IsAttack}
+use Rattle.dps_process.specs.Steps.{Config, Label, inputs, outputs, Action, silent, Moves, Step, AreOneBag}
+use Rattle.dps_process.specs.Traces.{Runs, IsTrace, Ends, Matches, AreTraceEquivalent, IsEquivalent, IsTraceOf, IsAttack}
 
 -- being one bag is an equivalence
 abbrev pub BagsReflexive : Type 0
@@ -65,6 +65,27 @@ ClosedProcessStays = (x : ℕ) (t : Tree) (p : Process) → IsClosedProcess p �
 -- a closed term put for a variable removes this variable, and no other
 abbrev pub PutRemoves : Type 0
 PutRemoves = (x : ℕ) (t : Tree) (p : Process) → IsClosed t → (y : ℕ) → IsFree y (put x t p) ↔ (IsFree y p × (y ≢ x))
+
+-- a variable that stands in no term of a process is not free there
+abbrev pub FreeStands : Type 0
+FreeStands = (x : ℕ) (p : Process) → EachTerm (λ u. ¬ StandsIn (var x) u) p → ¬ IsFree x p
+
+-- a variable that is not free, and that no binder binds, stands in no term
+abbrev pub UnboundIsFree : Type 0
+UnboundIsFree = (x : ℕ) (p : Process) → EachBinder (λ y. x ≢ y) p → (¬ IsFree x p) → EachTerm (λ u. ¬ StandsIn (var x) u) p
+
+-- the channel that a label names
+abbrev pub channel_of : Label → ℕ
+channel_of (inputs c r) = c
+channel_of (outputs c j) = c
+
+-- the labels of a trace name channels of the process
+abbrev pub LabelsNameChannels : Type 0
+LabelsNameChannels =
+    (channels : List ℕ) (signature : Signature) (theory : Theory) (p : Process) (word : List Label) (frame : List Tree)
+    → EachChannel (λ c. Contains channels c) p
+    → IsTrace signature theory p word frame
+    → All (λ l. Contains channels (channel_of l)) word
 
 -- trace equivalence is an equivalence
 abbrev pub TracesReflexive : Type 0

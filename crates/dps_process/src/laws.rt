@@ -1,5 +1,5 @@
 //! The laws of steps, traces and equivalence. Each function does nothing: its contract is the law.
-ghost use Rattle.dps_process.specs.Laws.{BagsReflexive, BagsSymmetric, BagsTransitive, NeighboursSwap, OrderIsUnseen, NilEnds, StepsUseUp, FramesGrow, ClosedProcessStays, PutRemoves, TracesReflexive, TracesSymmetric, TracesTransitive, ChoiceCommutes, ParallelCommutes, AttackRefutes, NoAttackLeavesNoneUnmatched, NoAttackIsEquivalence};
+ghost use Rattle.dps_process.specs.Laws.{BagsReflexive, BagsSymmetric, BagsTransitive, NeighboursSwap, OrderIsUnseen, NilEnds, StepsUseUp, FramesGrow, ClosedProcessStays, PutRemoves, FreeStands, UnboundIsFree, LabelsNameChannels, TracesReflexive, TracesSymmetric, TracesTransitive, ChoiceCommutes, ParallelCommutes, AttackRefutes, NoAttackLeavesNoneUnmatched, NoAttackIsEquivalence};
 
 /// A configuration is the same bag as itself.
 pub fn bags_reflexive()
@@ -49,6 +49,21 @@ pub fn closed_process_stays()
 /// A closed term put for a variable removes this variable from the free ones, and no other.
 pub fn put_removes()
     ensures { PutRemoves }
+{}
+
+/// A variable that stands in no term of a process is not free there.
+pub fn free_stands()
+    ensures { FreeStands }
+{}
+
+/// A variable that is not free, and that no binder binds, stands in no term.
+pub fn unbound_is_free()
+    ensures { UnboundIsFree }
+{}
+
+/// The labels of a trace name channels of the process.
+pub fn labels_name_channels()
+    ensures { LabelsNameChannels }
 {}
 
 /// A process is equivalent to itself.
