@@ -24,7 +24,7 @@ module _ (P : ℕ → Type 0) where
   channels-replace_in f (input c x p) h = (h.0, channels-replace_in (but_for x f) p h.1)
   channels-replace_in f (output c u p) h = (h.0, channels-replace_in f p h.1)
 
-  channels-put : (x : ℕ) (t : Tree) (p : Process) → EachChannel P p → EachChannel P (put x t p)
+  pub channels-put : (x : ℕ) (t : Tree) (p : Process) → EachChannel P p → EachChannel P (put x t p)
   channels-put x t p h = channels-replace_in (variables_to (only x t)) p h
 
   both_parts : (ps qs : List Process) → AllParts ps → AllParts qs → AllParts (ps ++ qs)

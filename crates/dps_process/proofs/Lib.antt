@@ -4,6 +4,9 @@ pub mod FreeVariables
 pub mod Standing
 pub mod Running
 pub mod Channels
+pub mod Values
+pub mod Keeping
+pub mod LabelsInOrder
 pub mod Tracing
 pub mod Branches
 pub mod Inverting

@@ -1,15 +1,18 @@
 -- What a reader expects of steps, traces and equivalence, each stated as one fact.
-use Rattle.std.specs.Prelude.{◌≡◌, ◌≢◌, ◌⊎◌, ◌↔◌, ℕ, ◌<◌, List, [], ◌∷◌, ◌++◌, All, Contains}
+use Rattle.std.specs.Prelude.{◌≡◌, ◌≢◌, ◌⊎◌, ◌↔◌, ℕ, ◌<◌, List, [], ◌∷◌, ◌++◌, length, All, Contains}
 use Rattle.dps_branch.specs.declared.Side.{Side}
 use Rattle.dps_branch.specs.Sides.{opposite}
 use Rattle.dps_terms.specs.Tree.{var, Tree, StandsIn}
-use Rattle.dps_terms.specs.Signature.{Signature}
-use Rattle.dps_terms.specs.Kinds.{IsClosed}
+use Rattle.dps_terms.specs.Signature.{Signature, shapes}
+use Rattle.dps_terms.specs.Kinds.{IsClosed, IsFrameMessage, IsOver, IsPartTerm, IsRecipe}
 use Rattle.dps_theory.specs.Theory.{Theory}
+use Rattle.dps_theory.specs.Evaluation.{Evaluates}
+use Rattle.dps_theory.specs.Frames.{HasValue, IsFrame}
 use Rattle.dps_process.specs.Process.{Process, nil, parallel, choice, part_nodes, IsFree, IsClosedProcess, put, EachTerm, EachChannel, EachBinder}
-use Rattle.dps_process.specs.Problem.{Problem, side_of}
-use Rattle.dps_process.specs.Steps.{Config, Label, inputs, outputs, Action, silent, Moves, Step, AreOneBag}
+use Rattle.dps_process.specs.Problem.{Problem, side_of, IsLawful}
+use Rattle.dps_process.specs.Steps.{Config, start, Label, inputs, outputs, Action, silent, Moves, Step, AreOneBag}
 use Rattle.dps_process.specs.Traces.{Runs, IsTrace, Ends, Matches, AreTraceEquivalent, IsEquivalent, IsTraceOf, IsAttack}
+use Rattle.dps_process.specs.Lawful.{IsLawfulTheory, IsLawfulConfig, AreLawfulLabels}
 
 -- being one bag is an equivalence
 abbrev pub BagsReflexive : Type 0
@@ -86,6 +89,66 @@ LabelsNameChannels =
     → EachChannel (λ c. Contains channels c) p
     → IsTrace signature theory p word frame
     → All (λ l. Contains channels (channel_of l)) word
+
+-- what a term over the signature evaluates to is a message of a frame over the signature
+abbrev pub ValuesStayOver : Type 0
+ValuesStayOver =
+    (signature : Signature) (theory : Theory) (t v : Tree)
+    → IsLawfulTheory signature theory
+    → IsPartTerm signature t
+    → Evaluates theory t v
+    → IsFrameMessage (shapes signature) v × IsOver signature v
+
+-- and so is the value of a recipe in a frame
+abbrev pub RecipesGiveMessages : Type 0
+RecipesGiveMessages =
+    (signature : Signature) (theory : Theory) (frame : List Tree) (r v : Tree)
+    → IsLawfulTheory signature theory
+    → IsFrame signature frame
+    → IsRecipe signature (length frame) r
+    → HasValue theory frame r v
+    → IsFrameMessage (shapes signature) v × IsOver signature v
+
+-- a lawful problem has a lawful theory, and each of its sides starts lawful
+abbrev pub SidesStartLawful : Type 0
+SidesStartLawful =
+    (problem : Problem) (side : Side)
+    → IsLawful problem
+    → IsLawfulTheory problem.signature problem.theory × IsLawfulConfig problem.signature (start (side_of problem side))
+
+-- a step of a lawful configuration leads to a lawful one
+abbrev pub StepsStayLawful : Type 0
+StepsStayLawful =
+    (signature : Signature) (theory : Theory) (c d : Config) (action : Action)
+    → IsLawfulTheory signature theory
+    → IsLawfulConfig signature c
+    → Step signature theory c action d
+    → IsLawfulConfig signature d
+
+-- and so does a run
+abbrev pub RunsStayLawful : Type 0
+RunsStayLawful =
+    (signature : Signature) (theory : Theory) (c d : Config) (word : List Label)
+    → IsLawfulTheory signature theory
+    → IsLawfulConfig signature c
+    → Runs signature theory c word d
+    → IsLawfulConfig signature d
+
+-- so each trace of a lawful problem ends in a frame over its signature
+abbrev pub TracesEndInFrames : Type 0
+TracesEndInFrames =
+    (problem : Problem) (side : Side) (word : List Label) (frame : List Tree)
+    → IsLawful problem
+    → IsTraceOf problem side word frame
+    → IsFrame problem.signature frame
+
+-- the labels of a trace name public channels, hold recipes over the frames of their moments, and number the messages of
+-- the last frame in order
+abbrev pub TracesHaveLawfulLabels : Type 0
+TracesHaveLawfulLabels =
+    (signature : Signature) (theory : Theory) (p : Process) (word : List Label) (frame : List Tree)
+    → IsTrace signature theory p word frame
+    → AreLawfulLabels signature 0 word (length frame)
 
 -- trace equivalence is an equivalence
 abbrev pub TracesReflexive : Type 0

@@ -1,5 +1,5 @@
 //! The laws of steps, traces and equivalence. Each function does nothing: its contract is the law.
-ghost use Rattle.dps_process.specs.Laws.{BagsReflexive, BagsSymmetric, BagsTransitive, NeighboursSwap, OrderIsUnseen, NilEnds, StepsUseUp, FramesGrow, ClosedProcessStays, PutRemoves, FreeStands, UnboundIsFree, LabelsNameChannels, TracesReflexive, TracesSymmetric, TracesTransitive, ChoiceCommutes, ParallelCommutes, AttackRefutes, NoAttackLeavesNoneUnmatched, NoAttackIsEquivalence};
+ghost use Rattle.dps_process.specs.Laws.{BagsReflexive, BagsSymmetric, BagsTransitive, NeighboursSwap, OrderIsUnseen, NilEnds, StepsUseUp, FramesGrow, ClosedProcessStays, PutRemoves, FreeStands, UnboundIsFree, LabelsNameChannels, ValuesStayOver, RecipesGiveMessages, SidesStartLawful, StepsStayLawful, RunsStayLawful, TracesEndInFrames, TracesHaveLawfulLabels, TracesReflexive, TracesSymmetric, TracesTransitive, ChoiceCommutes, ParallelCommutes, AttackRefutes, NoAttackLeavesNoneUnmatched, NoAttackIsEquivalence};
 
 /// A configuration is the same bag as itself.
 pub fn bags_reflexive()
@@ -64,6 +64,42 @@ pub fn unbound_is_free()
 /// The labels of a trace name channels of the process.
 pub fn labels_name_channels()
     ensures { LabelsNameChannels }
+{}
+
+/// A term over the signature evaluates to messages over the signature alone.
+pub fn values_stay_over()
+    ensures { ValuesStayOver }
+{}
+
+/// The value of a recipe in a frame is a message over the signature.
+pub fn recipes_give_messages()
+    ensures { RecipesGiveMessages }
+{}
+
+/// A lawful problem has a lawful theory, and its sides start as lawful configurations.
+pub fn sides_start_lawful()
+    ensures { SidesStartLawful }
+{}
+
+/// A step of a lawful configuration leads to a lawful one.
+pub fn steps_stay_lawful()
+    ensures { StepsStayLawful }
+{}
+
+/// A run of a lawful configuration ends in a lawful one.
+pub fn runs_stay_lawful()
+    ensures { RunsStayLawful }
+{}
+
+/// Each trace of a lawful problem ends in a frame over its signature.
+pub fn traces_end_in_frames()
+    ensures { TracesEndInFrames }
+{}
+
+/// The labels of a trace hold recipes over the frames of their moments, on public channels, and number the outputs in
+/// order.
+pub fn traces_have_lawful_labels()
+    ensures { TracesHaveLawfulLabels }
 {}
 
 /// A process is equivalent to itself.
