@@ -1,17 +1,17 @@
 -- Where nothing of the outside fails, the words and the file decide the status.
-use Rattle.std.proofs.Common.{◌≡◌, ◌≢◌, ◌⊎◌, ℕ, ◌+◌, ◌<◌, ◌≤◌, List, [], ◌∷◌, length, Option, Some, None, refl, sym, ◌∙◌, ap, subst, inl, inr, arith}
+use Rattle.std.proofs.Common.{◌≡◌, ◌⊎◌, ℕ, ◌<◌, ◌≤◌, List, [], ◌∷◌, length, Option, Some, refl, sym, ◌∙◌, ap, subst, inl, inr, arith}
 use Rattle.std.specs.Prelude.{IfSome}
 use Rattle.dps_io.specs.Counts.{Rose}
-use Rattle.dps_small.specs.Meaning.{Means, MeansEquivalent, MeansNothing}
+use Rattle.dps_small.specs.Meaning.{MeansEquivalent, MeansNothing}
 use Rattle.deepsec_main.specs.declared.command.Command.{Command}
 use Rattle.deepsec_main.specs.declared.command.Command.TheVariants.{Check}
 use Rattle.deepsec_main.specs.declared.outcome.Outcome.{Outcome}
 use Rattle.deepsec_main.specs.declared.outcome.Outcome.TheVariants.{Equivalent, Refused, Stopped, NoMemory}
 use Rattle.deepsec_main.specs.declared.outcome.StopName.TheVariants.{TooLong, OpenFault, ReadFault, WordsRefused}
 use Rattle.deepsec_main.specs.declared.outcome.Cause.TheVariants.{NotBuilt}
-use Rattle.deepsec_main.specs.Words.{word_at, HasPlan, IsFirstWrong}
+use Rattle.deepsec_main.specs.Words.{word_at, HasPlan}
 use Rattle.deepsec_main.specs.Reports.{status_of}
-use Rattle.deepsec_main.specs.Answers.{limit, ChecksWord, HasReadText, IsTooLong, HasFault, IsCaused, IsReported, IsWritten, IsCutOff, IsFaultless, NamesText, IsOr, IsComplete}
+use Rattle.deepsec_main.specs.Answers.{limit, ChecksWord, HasReadText, IsTooLong, IsCaused, IsReported, IsFaultless, NamesText, IsComplete}
 
 module _ {F W : Type 0} (told : F → List ℕ → Option (List ℕ)) (taken open_faults read_faults : F → ℕ) (written : W → Option (List ℕ)) (faults : W → ℕ) (words : List (List ℕ)) (old new : F) (before after : W) where
   abbrev Faultless : Type 0

@@ -1,11 +1,11 @@
 -- Which words have a plan, and which is the first wrong one.
-use Rattle.std.proofs.Common.{◌≡◌, ◌≢◌, ℕ, zero, suc, ◌+◌, ◌-◌, ◌<◌, ◌≤◌, List, [], ◌∷◌, ◌++◌, Option, Some, length, take, get_or, unwrap_or, slice_get, option_map, refl, sym, ◌∙◌, ap, subst, arith, String, string_bytes}
+use Rattle.std.proofs.Common.{◌≡◌, ◌≢◌, ℕ, zero, suc, ◌-◌, ◌<◌, ◌≤◌, List, [], ◌∷◌, ◌++◌, Some, length, get_or, unwrap_or, slice_get, option_map, refl, ◌∙◌, ap, subst, arith, String, string_bytes}
 use Rattle.std.specs.Prelude.{codes}
 use Rattle.std.proofs.lemmas.Option.{slice_get-map, slice_get_read, slice_get_past}
 use Rattle.std.specs.declared.alloc.Global.{Global}
 use Rattle.deepsec_main.specs.declared.command.Command.{Command}
 use Rattle.deepsec_main.specs.declared.command.Command.TheVariants.{Check}
-use Rattle.deepsec_main.specs.Words.{texts, word_at, IsOption, AsksToCheck, HasPlan, CanGoOn, IsFirstWrong}
+use Rattle.deepsec_main.specs.Words.{texts, word_at, IsOption, HasPlan, CanGoOn, IsFirstWrong}
 use Rattle.deepsec_main.specs.Answers.{ChecksWord}
 
 some_file_is_none : ¬ IsOption (codes "F")

@@ -11,7 +11,6 @@ use Rattle.deepsec_main.specs.declared.outcome.Outcome.{Outcome}
 use Rattle.deepsec_main.specs.declared.outcome.Outcome.TheVariants.{Equivalent, Refused, Stopped, NoMemory}
 use Rattle.deepsec_main.specs.declared.outcome.StopName.{StopName}
 use Rattle.deepsec_main.specs.declared.outcome.StopName.TheVariants.{TooLong, OpenFault, ReadFault, WordsRefused}
-use Rattle.deepsec_main.specs.declared.outcome.Cause.{Cause}
 use Rattle.deepsec_main.specs.declared.outcome.Cause.TheVariants.{NotBuilt}
 use Rattle.deepsec_main.specs.Words.{word_at, HasPlan, IsFirstWrong}
 use Rattle.deepsec_main.specs.Reports.{report_text, status_of}

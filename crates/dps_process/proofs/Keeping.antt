@@ -15,10 +15,10 @@ use Rattle.dps_terms.proofs.Building.{built_instance, built_weaker}
 use Rattle.dps_theory.specs.Theory.{Theory}
 use Rattle.dps_theory.specs.Frames.{IsFrame}
 use Rattle.dps_process.specs.Process.{Process, nil, parallel, choice, conditional, bind, input, output, but_for, replace_in, only, put, IsFree, EachTerm}
-use Rattle.dps_process.specs.Problem.{Problem, side_of, IsLawful, IsLawfulSide}
+use Rattle.dps_process.specs.Problem.{Problem, side_of, IsLawful, IsLawfulSide, IsLawfulTheory}
 use Rattle.dps_process.specs.Steps.{Config, start, Label, Action, Takes, here, there, Moves, ends, splits, first, second, passes, fails, binds, binds_not, receives, sends, Meets, meets, Step, alone, together}
 use Rattle.dps_process.specs.Traces.{Runs, done, silently, visibly, IsTraceOf}
-use Rattle.dps_process.specs.Lawful.{IsLawfulTheory, IsLawfulPart, IsLawfulConfig}
+use Rattle.dps_process.specs.Lawful.{IsLawfulPart, IsLawfulConfig}
 use Rattle.dps_process.proofs.Channels.{channels-put}
 use Rattle.dps_process.proofs.FreeVariables.{free_after_put}
 use Rattle.dps_process.proofs.Values.{IsMessageOver, message_closed, message_of_part, value_over, recipe_value}
@@ -183,9 +183,6 @@ steps_stay_lawful signature theory c d action lawful h s = step_lawful signature
 pub runs_stay_lawful : (signature : Signature) (theory : Theory) (c d : Config) (word : List Label) → IsLawfulTheory signature theory → IsLawfulConfig signature c → Runs signature theory c word d → IsLawfulConfig signature d
 runs_stay_lawful signature theory c d word lawful h r = run_lawful signature theory lawful r h
 
-pub lawful_theory : (problem : Problem) → IsLawful problem → IsLawfulTheory problem.signature problem.theory
-lawful_theory problem h = record { same_symbols = h.same_symbols; accepted = h.accepted; rules_over = h.rules_over; rules_plain = h.rules_plain }
-
 lawful_start : (signature : Signature) (p : Process) → IsLawfulSide signature p → IsLawfulConfig signature (start p)
 lawful_start signature p h = record {
   parts = one_part signature p (record { closed = h.closed; channels = h.channels; terms = each_weaker (IsSourceTerm signature) (IsPartTerm signature) (source_term signature) p h.terms });
@@ -196,10 +193,9 @@ lawful_side : (problem : Problem) (side : Side) → IsLawful problem → IsLawfu
 lawful_side problem Left h = h.left
 lawful_side problem Right h = h.right
 
-pub sides_start_lawful : (problem : Problem) (side : Side) → IsLawful problem → IsLawfulTheory problem.signature problem.theory × IsLawfulConfig problem.signature (start (side_of problem side))
-sides_start_lawful problem side h = (lawful_theory problem h, lawful_start problem.signature (side_of problem side) (lawful_side problem side h))
+pub sides_start_lawful : (problem : Problem) (side : Side) → IsLawful problem → IsLawfulConfig problem.signature (start (side_of problem side))
+sides_start_lawful problem side h = lawful_start problem.signature (side_of problem side) (lawful_side problem side h)
 
 pub traces_end_in_frames : (problem : Problem) (side : Side) (word : List Label) (frame : List Tree) → IsLawful problem → IsTraceOf problem side word frame → IsFrame problem.signature frame
 traces_end_in_frames problem side word frame h t =
-    let started = sides_start_lawful problem side h in
-    subst (IsFrame problem.signature) t.2 (run_lawful problem.signature problem.theory started.0 t.1 started.1).frame
+    subst (IsFrame problem.signature) t.2 (run_lawful problem.signature problem.theory h.theory t.1 (sides_start_lawful problem side h)).frame

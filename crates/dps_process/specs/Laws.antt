@@ -9,10 +9,10 @@ use Rattle.dps_theory.specs.Theory.{Theory}
 use Rattle.dps_theory.specs.Evaluation.{Evaluates}
 use Rattle.dps_theory.specs.Frames.{HasValue, IsFrame}
 use Rattle.dps_process.specs.Process.{Process, nil, parallel, choice, part_nodes, IsFree, IsClosedProcess, put, EachTerm, EachChannel, EachBinder}
-use Rattle.dps_process.specs.Problem.{Problem, side_of, IsLawful}
+use Rattle.dps_process.specs.Problem.{Problem, side_of, IsLawful, IsLawfulTheory}
 use Rattle.dps_process.specs.Steps.{Config, start, Label, inputs, outputs, Action, silent, Moves, Step, AreOneBag}
 use Rattle.dps_process.specs.Traces.{Runs, IsTrace, Ends, Matches, AreTraceEquivalent, IsEquivalent, IsTraceOf, IsAttack}
-use Rattle.dps_process.specs.Lawful.{IsLawfulTheory, IsLawfulConfig, AreLawfulLabels}
+use Rattle.dps_process.specs.Lawful.{IsLawfulConfig, AreLawfulLabels}
 
 -- being one bag is an equivalence
 abbrev pub BagsReflexive : Type 0
@@ -109,12 +109,12 @@ RecipesGiveMessages =
     → HasValue theory frame r v
     → IsFrameMessage (shapes signature) v × IsOver signature v
 
--- a lawful problem has a lawful theory, and each of its sides starts lawful
+-- each side of a lawful problem starts lawful
 abbrev pub SidesStartLawful : Type 0
 SidesStartLawful =
     (problem : Problem) (side : Side)
     → IsLawful problem
-    → IsLawfulTheory problem.signature problem.theory × IsLawfulConfig problem.signature (start (side_of problem side))
+    → IsLawfulConfig problem.signature (start (side_of problem side))
 
 -- a step of a lawful configuration leads to a lawful one
 abbrev pub StepsStayLawful : Type 0

@@ -47,13 +47,17 @@ pub record IsLawfulSide (signature : Signature) (p : Process) : Type 0 where
   pub small : size p ≤ 2 ^ 20
   pub few_destructors : term_sum (destructors (shapes signature)) p ≤ 65536
 
--- A problem that a file may mean. Its theory is accepted, over just the symbols of the signature, and its rules are
--- written with declared names and variables.
+-- The theory of a problem that a file may mean: it is accepted, over just the symbols of the signature, and its rules
+-- are written with declared names and variables.
+pub record IsLawfulTheory (signature : Signature) (theory : Theory) : Type 0 where
+  pub same_symbols : theory.shapes ≡ shapes signature
+  pub accepted : IsAccepted theory
+  pub rules_over : (r : Rule) → HasRule theory r → IsOver signature r.left × IsOver signature r.right
+  pub rules_plain : HasPlainRules theory
+
+-- a problem that a file may mean
 pub record IsLawful (problem : Problem) : Type 0 where
-  pub same_symbols : problem.theory.shapes ≡ shapes problem.signature
-  pub accepted : IsAccepted problem.theory
-  pub rules_over : (r : Rule) → HasRule problem.theory r → IsOver problem.signature r.left × IsOver problem.signature r.right
-  pub rules_plain : HasPlainRules problem.theory
+  pub theory : IsLawfulTheory problem.signature problem.theory
   pub left : IsLawfulSide problem.signature problem.left
   pub right : IsLawfulSide problem.signature problem.right
 

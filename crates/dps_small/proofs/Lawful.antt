@@ -1,5 +1,5 @@
 -- The problems of the smallest files are lawful: they declare nothing, and have no more nodes than their text has bytes.
-use Rattle.std.proofs.Common.{◌≡◌, ℕ, zero, suc, ◌+◌, ◌^◌, ◌<◌, ◌≤◌, List, [], ◌∷◌, ◌++◌, length, refl, sym, ap, subst, inl, inr, arith, length-append, None}
+use Rattle.std.proofs.Common.{◌≡◌, ℕ, ◌+◌, ◌^◌, ◌<◌, ◌≤◌, List, [], ◌∷◌, ◌++◌, length, refl, sym, subst, inl, inr, arith, length-append, None}
 use Rattle.std.specs.Prelude.{◌⊎◌}
 use Rattle.std.specs.List.{AllZip}
 use Rattle.dps_lex.specs.declared.vocabulary.Token.{Token}
@@ -7,8 +7,8 @@ use Rattle.dps_lex.specs.LawsOfReading.{AreInOrder}
 use Rattle.dps_lex.proofs.Spans.{spans}
 use Rattle.dps_terms.specs.Tree.{Tree, node_count}
 use Rattle.dps_terms.specs.Kinds.{IsSourceTerm}
-use Rattle.dps_theory.specs.Theory.{Rule, Theory, HasRule, IsAccepted, HasPlainRules}
-use Rattle.dps_process.specs.Process.{Process, nil, parallel, IsFree, IsClosedProcess, EachTerm, EachChannel, EachBinder, process_nodes, term_sum, size}
+use Rattle.dps_theory.specs.Theory.{Rule, HasRule}
+use Rattle.dps_process.specs.Process.{IsFree, EachTerm, EachChannel, EachBinder, process_nodes, term_sum}
 use Rattle.dps_process.specs.Problem.{Problem, IsLawful, IsLawfulSide, HasHighBinders, destructors}
 use Rattle.dps_small.specs.declared.word.Word.{Word}
 use Rattle.dps_small.specs.declared.word.Word.TheVariants as words
@@ -112,16 +112,18 @@ no_rule r h = let l : h.0 < 0 = h.1 in omega arith
 
 lawful_file : (f : File) → length (par_words f.left) + length (par_words f.right) ≤ 1048576 → IsLawful (problem_of f)
 lawful_file f l = record {
-  same_symbols = refl;
-  accepted = record {
-    root = λ r h. absurd (no_rule r h);
-    arguments = λ r h. absurd (no_rule r h);
-    constructed = λ r h. absurd (no_rule r h);
-    bounded = λ r h. absurd (no_rule r h);
-    agreeing = λ r q h. absurd (no_rule r h);
+  theory = record {
+    same_symbols = refl;
+    accepted = record {
+      root = λ r h. absurd (no_rule r h);
+      arguments = λ r h. absurd (no_rule r h);
+      constructed = λ r h. absurd (no_rule r h);
+      bounded = λ r h. absurd (no_rule r h);
+      agreeing = λ r q h. absurd (no_rule r h);
+    };
+    rules_over = λ r h. absurd (no_rule r h);
+    rules_plain = record { left = λ r h. absurd (no_rule r h); right = λ r h. absurd (no_rule r h) };
   };
-  rules_over = λ r h. absurd (no_rule r h);
-  rules_plain = record { left = λ r h. absurd (no_rule r h); right = λ r h. absurd (no_rule r h) };
   left = lawful_side f.left (omega arith);
   right = lawful_side f.right (omega arith);
 }

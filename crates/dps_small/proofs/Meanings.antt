@@ -1,5 +1,5 @@
 -- What reading a text says of its meaning.
-use Rattle.std.proofs.Common.{◌≡◌, ◌≢◌, ℕ, zero, suc, ◌+◌, arith, take, List, [], ◌∷◌, ◌++◌, Option, Some, None, refl, sym, ◌∙◌, ap, subst, length, ◌<◌, get_or}
+use Rattle.std.proofs.Common.{◌≡◌, ℕ, zero, suc, ◌+◌, arith, take, List, [], ◌∷◌, ◌++◌, Option, Some, None, refl, sym, ◌∙◌, ap, subst, length, ◌<◌, get_or}
 use Rattle.std.specs.Prelude.{Bool, true, false, MatchBool}
 use Rattle.std.specs.List.{AllZip}
 use Rattle.std.proofs.lemmas.List.{take_more}
@@ -11,8 +11,8 @@ use Rattle.dps_lex.specs.Reading.{IsReading}
 use Rattle.dps_lex.proofs.OneReading.{one_reading}
 use Rattle.dps_small.specs.declared.word.Word.{Word}
 use Rattle.dps_small.specs.declared.word.Word.TheVariants as words
-use Rattle.dps_small.specs.Grammar.{File, file_words, IsFile}
-use Rattle.dps_small.specs.Meaning.{kind_of, IsWord, HasWords, Means, MeansEquivalent, MeansNothing, problem_of}
+use Rattle.dps_small.specs.Grammar.{file_words, IsFile}
+use Rattle.dps_small.specs.Meaning.{kind_of, IsWord, MeansEquivalent, MeansNothing, problem_of}
 use Rattle.dps_small.specs.Parsing.{IsNoWord, AreNoWords}
 use Rattle.dps_small.proofs.Quiet.{file_equivalent}
 

@@ -1,8 +1,8 @@
 -- Parts and parallel parts, read from the front.
-use Rattle.std.proofs.Common.{◌≡◌, ◌≢◌, ℕ, ◌+◌, ◌-◌, ◌<◌, ◌≤◌, max, List, [], ◌∷◌, ◌++◌, refl, ap, sym, ◌∙◌, subst, append_assoc, arith}
+use Rattle.std.proofs.Common.{◌≡◌, ◌≢◌, ℕ, ◌+◌, ◌≤◌, List, [], ◌∷◌, ◌++◌, refl, ap, sym, ◌∙◌, subst, append_assoc, arith}
 use Rattle.dps_small.specs.declared.word.Word.{Word}
 use Rattle.dps_small.specs.declared.word.Word.TheVariants as words
-use Rattle.dps_small.specs.Grammar.{Par, one, more, par_words, par_depth, Pre, zero_process, group, pre_words, pre_depth, File, file_words, IsFile, most_levels}
+use Rattle.dps_small.specs.Grammar.{Par, one, more, par_words, par_depth, Pre, zero_process, group, pre_words, pre_depth, File, file_words, IsFile}
 use Rattle.dps_small.specs.Parsing.{NoBar, IsPreThen, HasNoPre, IsParThen, HasNoPar}
 
 -- brackets, and what follows them

@@ -6,7 +6,7 @@ use Rattle.dps_terms.specs.Signature.{Signature}
 use Rattle.dps_theory.specs.Theory.{Theory}
 use Rattle.dps_theory.specs.Frames.{AreStaticallyEquivalent}
 use Rattle.dps_theory.proofs.Equivalence.{reflexive}
-use Rattle.dps_process.specs.Process.{Process, nil, parallel, choice, conditional, bind, input, output}
+use Rattle.dps_process.specs.Process.{Process, nil, parallel}
 use Rattle.dps_process.specs.Steps.{Config, start, Label, Action, silent, shows, Takes, here, there, Moves, ends, splits, Meets, meets, Step, alone, together}
 use Rattle.dps_process.specs.Traces.{Runs, done, silently, visibly, IsTrace, Matches, IsIncluded, AreTraceEquivalent, IsEquivalent}
 use Rattle.dps_small.specs.Grammar.{Par, one, more, Pre, zero_process, group, File}

@@ -1,5 +1,5 @@
 -- What the smallest files mean.
-use Rattle.std.specs.Prelude.{◌≡◌, ℕ, List, [], codes, slice_range, Option, None, ⊤}
+use Rattle.std.specs.Prelude.{◌≡◌, ℕ, List, [], codes, slice_range, None, ⊤}
 use Rattle.std.specs.List.{AllZip}
 use Rattle.dps_lex.specs.declared.vocabulary.Token.{Token}
 use Rattle.dps_lex.specs.declared.vocabulary.TokenKind.TheVariants as kinds

@@ -4,5 +4,4 @@ ghost use Rattle.dps_small.specs.Laws.{MeantProblemsAreLawful};
 /// Each problem that a text of at most 1,048,576 bytes means is lawful.
 pub fn meant_problems_are_lawful()
     ensures { MeantProblemsAreLawful }
-{
-}
+{}

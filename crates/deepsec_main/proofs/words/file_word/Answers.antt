@@ -1,5 +1,5 @@
 use Rattle.std.proofs.Common.{arith}
-use Rattle.deepsec_main.proofs.Planning.{no_words, wrong_command, no_file, option_for_file, surplus, asks}
+use Rattle.deepsec_main.proofs.Planning.{no_words, wrong_command, no_file, option_for_file, surplus}
 use Rattle.deepsec_main.proofs.words.file_word.Goals as goal
 
 pub returns-in-empty : goal.returns-in-empty

@@ -1,10 +1,10 @@
-use Rattle.std.proofs.Common.{◌≡◌, subst, sym, List, ℕ, true, false}
-use Rattle.std.specs.Prelude.{All, MatchBool}
+use Rattle.std.proofs.Common.{subst, sym, List}
+use Rattle.std.specs.Prelude.{All}
 use Rattle.std.specs.List.{AllZip}
 use Rattle.dps_lex.specs.declared.vocabulary.Token.{Token}
 use Rattle.dps_small.specs.declared.word.Word.{Word}
 use Rattle.dps_small.specs.Grammar.{IsFile}
-use Rattle.dps_small.specs.Meaning.{IsWord, MeansEquivalent, MeansNothing}
+use Rattle.dps_small.specs.Meaning.{IsWord}
 use Rattle.dps_small.specs.Parsing.{IsSpan, AreNoWords}
 use Rattle.dps_small.proofs.Spans.{spans}
 use Rattle.dps_small.proofs.Meanings.{faulty_means_nothing, no_words_mean_nothing, means_by_test}
