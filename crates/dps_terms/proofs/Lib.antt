@@ -2,3 +2,9 @@ pub mod Subterms
 pub mod Replacing
 pub mod Listing
 pub mod Building
+pub mod Arguments
+pub mod Bound
+pub mod Finding
+pub mod Positions
+pub mod Writing
+pub mod Known

@@ -4,3 +4,13 @@ pub mod Variables
 pub mod Signature
 pub mod Kinds
 pub mod Laws
+pub mod Stored
+pub mod Nodes
+pub mod Deeper
+pub mod Same
+pub mod Views
+pub mod Seen
+pub mod Smaller
+pub mod Bindings
+pub mod Names
+pub mod Text

@@ -1,10 +1,30 @@
-//! Terms, signatures and replacement, as contracts speak of them.
+//! Terms, substitutions and signatures.
 //!
 //! The definitions stand in `specs/`: a term is a finite tree (`Tree`), and substitutions, frames put for handles and
-//! renamings are one operation on it (`Replace`). The laws of these definitions are the contracts of `laws`.
+//! renamings are one operation on it (`Replace`). The laws of these definitions are the contracts of `laws`. Contracts
+//! see a `Term` as such a tree, a `Subst` as the list of its pairs (`Bindings`) and a `Signature` as the lists of its
+//! symbols and names.
 #![tactic(auto)]
 
+mod borrowed;
 pub mod laws;
+mod names;
+mod printing;
+mod signature;
+mod subst;
+mod term;
+#[cfg(test)]
+mod tests;
+
+pub use borrowed::{TermRef, TermView};
+pub use names::is_identifier;
+pub use signature::{AddRefusal, Signature};
+use std::alloc::AllocError;
+pub use subst::Subst;
+pub use term::Term;
+
+/// Want of memory.
+pub type NoMemory = AllocError;
 
 /// A symbol of a signature, by its place there, counted from 0.
 #[derive(Clone, Copy, Debug, PartialEq, Eq)]
@@ -29,3 +49,12 @@ pub enum PublicName {
     /// One of the attacker's own names `@0`, `@1` and so on, of which there is no end.
     At(u64),
 }
+
+/// Terms, substitutions and signatures may be handed to other threads and be shared with them.
+pub fn are_shared() {
+    is_shared::<Term>();
+    is_shared::<Subst>();
+    is_shared::<Signature>();
+}
+
+fn is_shared<T: Send + Sync>() {}

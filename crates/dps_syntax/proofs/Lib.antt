@@ -1,0 +1,15 @@
+pub mod Tables
+pub mod Walking
+pub mod Calm
+pub mod Stack
+pub mod Trees
+pub mod Files
+pub mod Building
+pub mod Leaves
+pub mod Labels
+pub mod Declared
+pub mod Alike
+pub mod Whole
+pub mod OneTree
+pub mod SomeFile
+pub mod FirstFaults

@@ -1,0 +1,12 @@
+pub mod Tree
+pub mod Parts
+pub mod Deeper
+pub mod Grammar
+pub mod Depth
+pub mod Marks
+pub mod Calm
+pub mod Expected
+pub mod Built
+pub mod Files
+pub mod Spans
+pub mod LawsOfFiles
