@@ -47,13 +47,19 @@ fn nested(
 #[test]
 fn whole_texts(rt: HostRuntime) -> Result<(), Fail> {
     let alloc = rt.alloc();
-    let cases: [(&[u8], Option<(FaultKind, u32, u32)>); 42] = [
+    let cases: [(&[u8], Option<(FaultKind, u32, u32)>); 45] = [
         (b"query trace_equiv(0,0).", None),
         (b"", Some((UnexpectedEnd, 1, 1))),
         (b"free a.", Some((UnexpectedEnd, 1, 8))),
         (b"free a.\n", Some((UnexpectedEnd, 2, 1))),
         (b"free a.\n(* c *)", Some((UnexpectedEnd, 2, 8))),
         (b"query trace_equiv(0,0)", Some((UnexpectedEnd, 1, 23))),
+        (
+            b"free c.\nquery trace_equiv(out(c,c",
+            Some((UnexpectedEnd, 2, 26)),
+        ),
+        (b"(* a (* b *)", Some((OpenComment, 1, 1))),
+        (b"query trace_equiv(01,0).", Some((BadNumber, 1, 19))),
         (b"query trace_equiv(0,0).\nx", Some((UnexpectedToken, 2, 1))),
         (b"query trace_equiv(0,0).(* behind *)\n", None),
         (b"free a b.", Some((UnexpectedToken, 1, 8))),

@@ -1,7 +1,7 @@
 -- Arguments as a list, and leaves as they are kept.
 use Rattle.std.proofs.Common.{◌≡◌, ℕ, zero, suc, arith, List, [], ◌∷◌, map, take, length, ◌≤◌, ◌<◌, ◌+◌, ◌++◌, get_or, ap, sym, ◌∙◌, refl}
 use Rattle.std.proofs.lemmas.List.{take_all, take_more, map-append}
-use Rattle.dps_terms.specs.Tree.{Leaf, public, private, var, ax, entry, rigid, Tree, Trees, app, more, trees, list_of, node_count, count}
+use Rattle.dps_terms.specs.Tree.{Leaf, public, private, var, ax, entry, rigid, Tree, app, more, trees, list_of, node_count, count}
 use Rattle.dps_terms.specs.Replace.{replace, replace_all}
 use Rattle.dps_terms.specs.Nodes.{leaf_of}
 use Rattle.dps_terms.specs.declared.Sym.{Sym}

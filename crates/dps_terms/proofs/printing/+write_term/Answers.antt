@@ -1,4 +1,4 @@
-use Rattle.std.proofs.Common.{◌≡◌, ◌<◌, sym, subst, arith, ◌∙◌, ap}
+use Rattle.std.proofs.Common.{◌<◌, sym, subst, arith, ◌∙◌, ap}
 use Rattle.dps_terms.specs.Tree.{app, trees, node_count}
 use Rattle.dps_terms.specs.Nodes.{tree_of}
 use Rattle.dps_terms.specs.Signature.{HasArity, shapes}

@@ -1,5 +1,5 @@
-use Rattle.std.proofs.Common.{◌≡◌, ◌<◌, ◌∙◌, sym, ap, subst, arith, true, false, true≢false, refl}
-use Rattle.dps_terms.specs.Tree.{Tree, app, trees, count}
+use Rattle.std.proofs.Common.{◌≡◌, ◌∙◌, sym, ap, subst, arith, true, false, true≢false, refl}
+use Rattle.dps_terms.specs.Tree.{trees, count}
 use Rattle.dps_terms.specs.Nodes.{tree_of}
 use Rattle.dps_terms.specs.Signature.{HasArity, shapes}
 use Rattle.dps_terms.specs.Kinds.{IsOver, IsLeafOver, AreBuiltOf}
