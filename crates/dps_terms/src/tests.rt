@@ -1,40 +1,11 @@
-//! Tables of texts, a signature as it grows, and terms of great depth.
+//! Tables of texts, a signature as it grows, terms by each of their makers, and terms of great depth.
 use crate::{
-    AddRefusal, NoMemory, PublicName, Signature, Subst, Sym, SymKind, Term, TermView, is_identifier,
+    AddRefusal, NoMemory, PublicName, Signature, Subst, Sym, SymKind, Term, TermRef, TermView,
+    is_identifier,
 };
 use std::alloc::Global;
 use std::process::Abort;
 use std::test::Fail;
-
-fn add_constructor(
-    rt: &impl Abort,
-    signature: &mut Signature,
-    name: &str,
-    arity: u32,
-) -> Result<Sym, AddRefusal> {
-    assert!(rt; is_identifier(name));
-    assert!(rt; signature.symbol_count() < 100);
-    assert!(rt; signature.name_count() < 100);
-    signature.add_symbol(name, SymKind::Constructor, arity)
-}
-
-fn add_tuple(rt: &impl Abort, signature: &mut Signature) -> Result<Sym, AddRefusal> {
-    assert!(rt; signature.symbol_count() < 100);
-    assert!(rt; signature.name_count() < 100);
-    signature.add_symbol("(2)", SymKind::Constructor, 2)
-}
-
-fn add_name(
-    rt: &impl Abort,
-    signature: &mut Signature,
-    name: &str,
-    private: bool,
-) -> Result<u32, AddRefusal> {
-    assert!(rt; is_identifier(name));
-    assert!(rt; signature.symbol_count() < 100);
-    assert!(rt; signature.name_count() < 100);
-    signature.add_name(name, private)
-}
 
 #[test]
 fn identifiers(rt: HostRuntime) {
@@ -57,31 +28,171 @@ fn identifiers(rt: HostRuntime) {
     }
 }
 
+/// What a text is declared as.
+#[derive(Clone, Copy)]
+enum Kind {
+    Symbol(SymKind, u32),
+    Name { private: bool },
+}
+
+/// Adds it, and gives its number.
+fn add(
+    rt: &impl Abort,
+    signature: &mut Signature,
+    text: &str,
+    kind: Kind,
+) -> Result<u32, AddRefusal> {
+    assert!(rt; is_identifier(text));
+    assert!(rt; signature.symbol_count() < 100);
+    assert!(rt; signature.name_count() < 100);
+    match kind {
+        Kind::Symbol(kind, arity) => match signature.add_symbol(text, kind, arity) {
+            Ok(sym) => Ok(sym.number),
+            Err(refusal) => Err(refusal),
+        },
+        Kind::Name { private } => signature.add_name(text, private),
+    }
+}
+
+/// The number of what was added. `None` where its text was declared.
+fn number(added: Result<u32, AddRefusal>) -> Result<Option<u32>, Fail> {
+    match added {
+        Ok(number) => Ok(Some(number)),
+        Err(AddRefusal::Twice) => Ok(None),
+        Err(AddRefusal::Memory) => Err(Fail::from("no memory")),
+    }
+}
+
+/// The symbols `(2)`, `c`, `f` with two arguments and `g`, a destructor, the public name `a` and the private name `k`.
+fn example(rt: &impl Abort, alloc: Global) -> Result<Signature, AddRefusal> {
+    let mut signature = Signature::new(alloc);
+    let _ = signature.add_symbol("(2)", SymKind::Constructor, 2)?;
+    let kinds = [
+        ("c", Kind::Symbol(SymKind::Constructor, 0)),
+        ("f", Kind::Symbol(SymKind::Constructor, 2)),
+        ("g", Kind::Symbol(SymKind::Destructor, 1)),
+        ("a", Kind::Name { private: false }),
+        ("k", Kind::Name { private: true }),
+    ];
+    for (text, kind) in kinds {
+        let _ = add(rt, &mut signature, text, kind)?;
+    }
+    Ok(signature)
+}
+
 #[test]
 fn signature_grows(rt: HostRuntime) -> Result<(), Fail> {
-    let mut signature = Signature::new(rt.alloc());
-    let pair = add_tuple(&rt, &mut signature)?;
-    let senc = add_constructor(&rt, &mut signature, "senc", 3)?;
-    let a = add_name(&rt, &mut signature, "a", false)?;
-    let k = add_name(&rt, &mut signature, "k", true)?;
-    assert_eq!(rt; (pair.number, senc.number, a, k), (0, 1, 0, 1));
-    assert!(rt;
-        matches!(
-            add_name(&rt, &mut signature, "senc", false),
-            Err(AddRefusal::Twice)
-        )
-    );
-    assert!(rt;
-        matches!(
-            add_constructor(&rt, &mut signature, "k", 0),
-            Err(AddRefusal::Twice)
-        )
-    );
-    assert_eq!(rt; signature.symbol("senc"), Some(senc));
-    assert_eq!(rt; signature.symbol("a"), None);
-    assert_eq!(rt; signature.name("k"), Some(k));
-    assert_eq!(rt; signature.name("senc"), None);
-    assert_eq!(rt; (signature.symbol_count(), signature.name_count()), (2, 2));
+    let mut signature = example(&rt, rt.alloc())?;
+    let table = [
+        ("k", Kind::Symbol(SymKind::Constructor, 0), None),
+        ("f", Kind::Name { private: false }, None),
+        ("h", Kind::Symbol(SymKind::Constructor, 1), Some(4)),
+        ("b", Kind::Name { private: true }, Some(2)),
+    ];
+    for (text, kind, wanted) in table {
+        let added = number(add(&rt, &mut signature, text, kind))?;
+        assert_eq!(&rt; added, wanted, "{text}");
+    }
+    Ok(())
+}
+
+#[test]
+fn signature_finds(rt: HostRuntime) -> Result<(), Fail> {
+    let signature = example(&rt, rt.alloc())?;
+    let table = [
+        ("(2)", Some(0), None),
+        ("g", Some(3), None),
+        ("a", None, Some(0)),
+        ("k", None, Some(1)),
+        ("x", None, None),
+    ];
+    for (text, symbol, name) in table {
+        let found = signature.symbol(text).map(|sym| sym.number);
+        assert_eq!(&rt; (found, signature.name(text)), (symbol, name), "{text}");
+    }
+    Ok(())
+}
+
+/// The term without arguments that shows this.
+fn leaf(alloc: Global, view: TermView) -> Result<Term, NoMemory> {
+    match view {
+        TermView::App(sym) => Term::app(alloc, sym, Vec::new(alloc)),
+        TermView::Public(name) => Term::public(alloc, name),
+        TermView::Private(number) => Term::private(alloc, number),
+        TermView::Var(number) => Term::var(alloc, number),
+        TermView::Ax(number) => Term::ax(alloc, number),
+        TermView::Entry(number) => Term::entry(alloc, number),
+        TermView::Rigid(number) => Term::rigid(alloc, number),
+    }
+}
+
+/// The term's text, where it is over the signature.
+fn text_of(alloc: Global, signature: &Signature, term: &Term) -> Result<Option<String>, NoMemory> {
+    if !term.is_over(signature) {
+        return Ok(None);
+    }
+    match term.text(alloc, signature) {
+        Ok(text) => Ok(Some(text)),
+        Err(error) => Err(error),
+    }
+}
+
+/// Whether this is the term's text, or there is none and the term is not over the signature.
+fn is_written(
+    alloc: Global,
+    signature: &Signature,
+    term: &Term,
+    text: Option<&str>,
+) -> Result<bool, NoMemory> {
+    match (text_of(alloc, signature, term)?, text) {
+        (Some(written), Some(text)) => Ok(written.as_str() == text),
+        (None, None) => Ok(true),
+        _ => Ok(false),
+    }
+}
+
+/// Whether the leaf shows what it was made of, equals its copy and has this text.
+fn is_leaf(
+    alloc: Global,
+    signature: &Signature,
+    view: TermView,
+    text: Option<&str>,
+) -> Result<bool, NoMemory> {
+    let term = leaf(alloc, view)?;
+    let copied = is_copied(alloc, &term)?;
+    let written = is_written(alloc, signature, &term, text)?;
+    Ok(copied && written && shows(term.whole(), view))
+}
+
+fn shows(term: TermRef<'_>, view: TermView) -> bool {
+    term.view() == view && term.arity() == 0
+}
+
+fn is_copied(alloc: Global, term: &Term) -> Result<bool, NoMemory> {
+    let copy = term.whole().copy(alloc)?;
+    Ok(copy == *term && term.whole().equals(copy.whole()))
+}
+
+#[test]
+fn leaves(rt: HostRuntime) -> Result<(), Fail> {
+    let alloc = rt.alloc();
+    let signature = example(&rt, alloc)?;
+    let table = [
+        (TermView::App(Sym { number: 1 }), Some("c")),
+        (TermView::App(Sym { number: 2 }), None),
+        (TermView::App(Sym { number: 9 }), None),
+        (TermView::Public(PublicName::Declared(0)), Some("a")),
+        (TermView::Public(PublicName::Declared(1)), None),
+        (TermView::Public(PublicName::At(7)), Some("@7")),
+        (TermView::Private(0), Some("#0")),
+        (TermView::Var(18), Some("?18")),
+        (TermView::Ax(12), Some("ax12")),
+        (TermView::Entry(3), Some("e3")),
+        (TermView::Rigid(4), Some("!4")),
+    ];
+    for (view, text) in table {
+        assert!(&rt; is_leaf(alloc, &signature, view, text)?, "{view:?}");
+    }
     Ok(())
 }
 
@@ -92,94 +203,93 @@ fn nested(alloc: Global, f: Sym) -> Result<Term, NoMemory> {
     Term::app(alloc, f, arguments)
 }
 
-/// Whether the term was made and has this text.
-fn is_written(
-    alloc: Global,
-    signature: &Signature,
-    made: Result<Term, NoMemory>,
-    text: &str,
-) -> bool {
-    let Ok(term) = made else {
-        return false;
-    };
-    if !term.is_over(signature) {
-        return false;
-    }
-    match term.text(alloc, signature) {
-        Ok(written) => written.as_str() == text,
-        Err(_) => false,
-    }
-}
-
-fn leaves_are_written(alloc: Global, signature: &Signature, name: u32) -> bool {
-    let declared = Term::public(alloc, PublicName::Declared(name));
-    is_written(alloc, signature, declared, "a")
-        && is_written(
-            alloc,
-            signature,
-            Term::public(alloc, PublicName::At(7)),
-            "@7",
-        )
-        && is_written(alloc, signature, Term::private(alloc, 0), "#0")
-        && is_written(alloc, signature, Term::var(alloc, 18), "?18")
-        && is_written(alloc, signature, Term::ax(alloc, 12), "ax12")
-        && is_written(alloc, signature, Term::entry(alloc, 3), "e3")
-        && is_written(alloc, signature, Term::rigid(alloc, 4), "!4")
-}
-
-#[test]
-fn texts_of_leaves(rt: HostRuntime) -> Result<(), Fail> {
-    let alloc = rt.alloc();
-    let mut signature = Signature::new(alloc);
-    let a = add_name(&rt, &mut signature, "a", false)?;
-    assert!(rt; leaves_are_written(alloc, &signature, a));
-    Ok(())
-}
-
-#[test]
-fn texts_of_symbols(rt: HostRuntime) -> Result<(), Fail> {
-    let alloc = rt.alloc();
-    let mut signature = Signature::new(alloc);
-    let pair = add_tuple(&rt, &mut signature)?;
-    let c = add_constructor(&rt, &mut signature, "c", 0)?;
-    let f = add_constructor(&rt, &mut signature, "f", 2)?;
-    assert!(rt; is_written(alloc, &signature, Term::app(alloc, c, Vec::new(alloc)), "c"));
-    assert!(rt; is_written(alloc, &signature, nested(alloc, f), "f(?2,f(?1,?2))"));
-    assert!(rt; is_written(alloc, &signature, nested(alloc, pair), "(?2,(?1,?2))"));
-    assert!(rt; !is_written(alloc, &signature, nested(alloc, c), "c"));
-    Ok(())
-}
-
-#[test]
-fn parts_of_terms(rt: HostRuntime) -> Result<(), Fail> {
-    let alloc = rt.alloc();
-    let f = Sym { number: 5 };
-    let term = nested(alloc, f)?;
-    assert_eq!(rt; term.size(), 5);
-    let variables = term.vars(alloc)?;
-    assert_eq!(rt; variables.as_slice(), [2, 1].as_slice());
-    let root = term.whole();
-    assert_eq!(rt; root.view(), TermView::App(f));
-    assert_eq!(rt; root.arity(), 2);
-    assert_eq!(rt; root.argument(0).view(), TermView::Var(2));
-    assert_eq!(rt; root.argument(1).arity(), 2);
-    Ok(())
-}
-
-#[test]
-fn changed_terms(rt: HostRuntime) -> Result<(), Fail> {
-    let alloc = rt.alloc();
-    let f = Sym { number: 5 };
-    let term = nested(alloc, f)?;
+/// The same with itself in the place of `?2`.
+fn doubled(alloc: Global, f: Sym) -> Result<Term, NoMemory> {
     let mut by = Subst::empty(alloc);
     by.bind(2, nested(alloc, f)?)?;
-    let changed = term.subst(alloc, &by)?;
-    assert_eq!(rt; changed.size(), 13);
-    assert!(rt; changed != term);
+    nested(alloc, f)?.subst(alloc, &by)
+}
+
+fn has_variables(alloc: Global, term: &Term, variables: &[u64]) -> Result<bool, NoMemory> {
+    let found = term.vars(alloc)?;
+    Ok(found.as_slice() == variables)
+}
+
+/// What the second argument shows.
+fn second(term: TermRef<'_>) -> Option<TermView> {
+    if term.arity() < 2 {
+        return None;
+    }
+    let argument = term.argument(1);
+    Some(argument.view())
+}
+
+/// Whether the term shows the symbol twice, and has this size, this text and the variables `?2` and `?1`.
+fn is_nest(
+    alloc: Global,
+    signature: &Signature,
+    term: &Term,
+    f: Sym,
+    size: u64,
+    text: Option<&str>,
+) -> Result<bool, NoMemory> {
+    let view = TermView::App(f);
+    let shown = term.whole().view() == view && second(term.whole()) == Some(view);
+    let same = is_copied(alloc, term)? && has_variables(alloc, term, &[2, 1])?;
+    let written = is_written(alloc, signature, term, text)?;
+    Ok(shown && same && written && term.size() == size)
+}
+
+#[test]
+fn nested_terms(rt: HostRuntime) -> Result<(), Fail> {
+    let alloc = rt.alloc();
+    let signature = example(&rt, alloc)?;
+    let table = [
+        (
+            0,
+            Some("(?2,(?1,?2))"),
+            Some("((?2,(?1,?2)),(?1,(?2,(?1,?2))))"),
+        ),
+        (1, None, None),
+        (
+            2,
+            Some("f(?2,f(?1,?2))"),
+            Some("f(f(?2,f(?1,?2)),f(?1,f(?2,f(?1,?2))))"),
+        ),
+    ];
+    for (number, once, twice) in table {
+        let f = Sym { number };
+        assert!(&rt;
+            is_nest(alloc, &signature, &nested(alloc, f)?, f, 5, once)?,
+            "{number}"
+        );
+        assert!(&rt;
+            is_nest(alloc, &signature, &doubled(alloc, f)?, f, 13, twice)?,
+            "{number}"
+        );
+    }
     Ok(())
 }
 
-fn tower(alloc: Global, sym: Sym, height: u32) -> Result<Term, NoMemory> {
+fn size_of(by: &Subst, variable: u64) -> u64 {
+    match by.get(variable) {
+        Some(term) => term.size(),
+        None => 0,
+    }
+}
+
+#[test]
+fn bindings(rt: HostRuntime) -> Result<(), Fail> {
+    let alloc = rt.alloc();
+    let mut by = Subst::empty(alloc);
+    assert_eq!(&rt; size_of(&by, 2), 0);
+    by.bind(2, nested(alloc, Sym { number: 0 })?)?;
+    assert_eq!(&rt; (size_of(&by, 2), size_of(&by, 1)), (5, 0));
+    Ok(())
+}
+
+fn tower(alloc: Global, height: u32) -> Result<Term, NoMemory> {
+    let sym = Sym { number: 0 };
     let mut term = Term::var(alloc, 7)?;
     for _ in 0..height {
         term = Term::app(alloc, sym, vec![in alloc; term]?)?;
@@ -187,20 +297,26 @@ fn tower(alloc: Global, sym: Sym, height: u32) -> Result<Term, NoMemory> {
     Ok(term)
 }
 
+/// A substitution that binds the tower's variable to such a tower.
+fn stacking(alloc: Global, height: u32) -> Result<Subst, NoMemory> {
+    let mut by = Subst::empty(alloc);
+    by.bind(7, tower(alloc, height)?)?;
+    Ok(by)
+}
+
+fn is_tower(alloc: Global, term: &Term, height: u32) -> Result<bool, NoMemory> {
+    Ok(tower(alloc, height)? == *term)
+}
+
 /// Terms are as deep as a path of a process may be, and deeper.
 #[test]
 fn deep_terms(rt: HostRuntime) -> Result<(), Fail> {
     let alloc = rt.alloc();
-    let height = 2000;
-    let sym = Sym { number: 0 };
-    let term = tower(alloc, sym, height)?;
-    let mut by = Subst::empty(alloc);
-    assert!(rt; by.get(7).is_none());
-    by.bind(7, tower(alloc, sym, height)?)?;
-    let changed = term.subst(alloc, &by)?;
-    assert_eq!(rt; changed.size(), 4001);
-    assert!(rt; changed == tower(alloc, sym, 4000)?);
-    let variables = changed.vars(alloc)?;
-    assert_eq!(rt; variables.as_slice(), [7].as_slice());
+    let by = stacking(alloc, 2000)?;
+    let term = tower(alloc, 2000)?.subst(alloc, &by)?;
+    assert_eq!(&rt; term.size(), 4001);
+    assert!(&rt; is_tower(alloc, &term, 4000)?);
+    assert!(&rt; is_copied(alloc, &term)?);
+    assert!(&rt; has_variables(alloc, &term, &[7])?);
     Ok(())
 }
