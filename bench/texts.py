@@ -31,7 +31,9 @@ LEXING = {
 }
 READING = {
     "protocol": filled("", DECLARATIONS, "query trace_equiv(Resp(pk(ska)), Resp(pk(skb)))."),
-    "chain": filled("query trace_equiv(0", "|0", ", 0)."),
+    "parallel": filled("query trace_equiv(0", "|0", ", 0)."),
+    "choice": filled("query trace_equiv(0", "+0", ", 0)."),
+    "comment": filled("(*", " any bytes ( * )\n", "*)query trace_equiv(0, 0)."),
     "rules": filled("reduc f(x) -> x", ";\nfst((x,y)) -> x; sdec(senc(x,y),y) -> x", ".\nquery trace_equiv(0, 0)."),
     "brackets": filled("query trace_equiv(0", "|" + "(" * 150 + "0" + ")" * 150, ", 0)."),
 }

@@ -1,9 +1,10 @@
 -- The loop over a comment.
-use Rattle.std.proofs.Common.{◌≡◌, ℕ, ◌+◌, ◌-◌, ◌<◌, ◌≤◌, zero, suc, false, List, [], ◌∷◌, ◌++◌, length, get_or, take, drop, refl, ap, sym, ◌∙◌, subst, arith, length-append, length-drop, add-one, slice_range}
+use Rattle.std.proofs.Common.{◌≡◌, ℕ, ◌+◌, ◌-◌, ◌<◌, ◌≤◌, zero, suc, true, false, List, [], ◌∷◌, ◌++◌, length, get_or, take, drop, refl, ap, sym, ◌∙◌, subst, arith, length-append, length-drop, add-one, slice_range}
 use Rattle.std.proofs.lemmas.List.{drop_more, take_at, drop-drop}
+use Rattle.std.proofs.lemmas.Bool.Decides.{nat_tests}
 use Rattle.dps_lex.specs.CommentText.{opening, begins_mark, IsInside, IsComment}
 use Rattle.dps_lex.specs.Reading.{BeginsWith}
-use Rattle.dps_lex.specs.Scanning.{HasNoComment}
+use Rattle.dps_lex.specs.Scanning.{HasNoComment, is_plain}
 use Rattle.dps_lex.proofs.Nesting.{Closes, none, more, other_on, other_back, open_on, open_back, close_on, close_back, none_closes}
 
 -- The comment that goes on at `start` goes on at `at` inside so many more: it ends at the same place.
@@ -30,6 +31,13 @@ nested_other bytes start at depth first second h f s m n =
       on = λ after c. n.on after (subst (λ z. Closes (suc depth) z after) (sym whole) (other_on first (second ∷ rest) after m (subst (λ z. Closes (suc depth) z after) later c)));
       back = λ after c. subst (λ z. Closes (suc depth) z after) (sym later) (other_back first (second ∷ rest) after m (subst (λ z. Closes (suc depth) z after) whole (n.back after c)));
     }
+
+plain_no_mark : (a b : ℕ) → is_plain a ≡ true → begins_mark (a ∷ b ∷ []) ≡ false
+plain_no_mark a b p = grind (arith, nat_tests)
+
+pub nested_plain : (bytes : List ℕ) (start at depth first : ℕ) → at + 1 < length bytes → first ≡ get_or bytes at 0 → is_plain first ≡ true → IsNested bytes start at depth → IsNested bytes start (at + 1) depth
+nested_plain bytes start at depth first h f p n =
+    nested_other bytes start at depth first (get_or bytes (at + 1) 0) h f refl (plain_no_mark first (get_or bytes (at + 1) 0) p) n
 
 two_marks : (bytes : List ℕ) (at first second a b : ℕ) → at + 1 < length bytes → first ≡ get_or bytes at 0 → second ≡ get_or bytes (at + 1) 0 → first ≡ a → second ≡ b → drop at bytes ≡ a ∷ b ∷ drop (at + 1 + 1) bytes
 two_marks bytes at first second a b h f s e g = two_more bytes at a b h (sym e ∙ f) (sym g ∙ s)
@@ -88,4 +96,4 @@ nested_open_end bytes from at depth h begins n = record {
 pub opening_room : (bytes : List ℕ) (from : ℕ) → BeginsWith opening (drop from bytes) → from + 1 < length bytes
 opening_room bytes from begins = omega (arith, ap length begins.1, length-drop from bytes)
 
-pub ruleset for_comment_end = (nested_first, nested_other, nested_open, nested_close, nested_end, nested_open_end)
+pub ruleset for_comment_end = (nested_first, nested_plain, nested_other, nested_open, nested_close, nested_end, nested_open_end)

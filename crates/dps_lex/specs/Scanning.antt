@@ -1,6 +1,7 @@
 -- What the steps of the scan say. Only private functions cite these words.
-use Rattle.std.specs.Prelude.{◌≡◌, ◌≢◌, ◌≤◌, ◌<◌, ℕ, ◌+◌, List, ◌∷◌, take, drop, length, Some, Bool, false, ◌==◌, ◌&&◌, slice_range}
+use Rattle.std.specs.Prelude.{◌≡◌, ◌≢◌, ◌≤◌, ◌<◌, ℕ, ◌+◌, List, ◌∷◌, take, drop, length, Some, Bool, false, ◌==◌, ◌&&◌, not, slice_range}
 use Rattle.std.specs.Str.{byte}
+use Rattle.dps_lex.specs.Alphabet.{newline}
 use Rattle.dps_lex.specs.Spelling.{keyword, sign}
 use Rattle.dps_lex.specs.CommentText.{IsComment}
 use Rattle.dps_lex.specs.LexemeText.{IsToken}
@@ -37,6 +38,10 @@ pub record BeginsToken (bytes : List ℕ) (kind : TokenKind) (n : ℕ) : Type 0 
   pub within : n ≤ length bytes
   pub first : IsFirstLexeme (take n bytes) bytes
   pub token : IsToken kind (take n bytes)
+
+-- the byte ends no line, and is the first of no mark of a comment
+abbrev pub is_plain : ℕ → Bool
+is_plain b = not (b == newline) && not (b == byte "(") && not (b == byte "*")
 
 -- no comment is at the front
 pub record HasNoComment (bytes : List ℕ) : Type 0 where

@@ -2,6 +2,7 @@
 
 ghost use Rattle.std.specs.Prelude.{◌≡◌};
 ghost use Rattle.dps_lex.specs.Alphabet.{is_blank, is_letter, is_digit, is_name_byte};
+ghost use Rattle.dps_lex.specs.Scanning.{is_plain};
 
 pub(crate) fn blank(byte: u8) -> bool
     ensures { result ≡ is_blank byte }
@@ -26,4 +27,11 @@ pub(crate) fn name_byte(byte: u8) -> bool
     ensures { result ≡ is_name_byte byte }
 {
     letter(byte) || digit(byte) || byte == b'_' || byte == b'\''
+}
+
+/// Whether the byte ends no line, and opens and closes no comment with what follows.
+pub(crate) fn plain(byte: u8) -> bool
+    ensures { result ≡ is_plain byte }
+{
+    byte != b'\n' && byte != b'(' && byte != b'*'
 }

@@ -5,7 +5,8 @@ ghost use Rattle.dps_lex.specs.CommentText.{opening};
 ghost use Rattle.dps_lex.specs.Reading.{BeginsWith};
 ghost use Rattle.dps_lex.specs.Scanning.{IsPosition, HasNoComment, IsCommentTo};
 
-use crate::position::{Position, past_byte};
+use crate::alphabet::plain;
+use crate::position::{Position, past_byte, past_plain};
 
 /// The position behind the comment that begins here, if it ends. `depth` counts the open comments in it.
 #[tactic(auto, using(crate::proofs::Comments::for_comment_end))]
@@ -20,6 +21,10 @@ pub(crate) fn comment_end(bytes: &[u8], from: Position) -> Option<Position>
     let mut depth: usize = 0;
     while position.at + 1 < bytes.len() {
         let byte = bytes[position.at];
+        if plain(byte) {
+            position = past_plain(bytes, position);
+            continue;
+        }
         let next = bytes[position.at + 1];
         if byte == b'*' && next == b')' {
             let second = past_byte(bytes, position);

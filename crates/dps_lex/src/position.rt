@@ -1,8 +1,8 @@
 //! Offsets with their line.
 
-ghost use Rattle.std.specs.Prelude.{◌≡◌, ◌+◌, ◌<◌, ◌≤◌, ◌^◌, length};
+ghost use Rattle.std.specs.Prelude.{◌≡◌, ◌+◌, ◌<◌, ◌≤◌, ◌^◌, true, length, slice_index};
 ghost use Rattle.dps_lex.specs.Reading.{line_behind, column_behind};
-ghost use Rattle.dps_lex.specs.Scanning.{IsPosition};
+ghost use Rattle.dps_lex.specs.Scanning.{IsPosition, is_plain};
 
 use crate::vocabulary::Place;
 
@@ -59,6 +59,21 @@ pub(crate) fn past_byte(bytes: &[u8], here: Position) -> Position
             line: here.line,
             line_start: here.line_start,
         }
+    }
+}
+
+/// The position behind the byte here, which is plain.
+pub(crate) fn past_plain(bytes: &[u8], here: Position) -> Position
+    requires inside { here.at < length bytes.now }
+    requires plain { is_plain (slice_index bytes.now here.at) ≡ true }
+    requires here { IsPosition bytes.now here }
+    ensures position { IsPosition bytes.now result }
+    ensures at { result.at ≡ here.at + 1 }
+{
+    Position {
+        at: here.at + 1,
+        line: here.line,
+        line_start: here.line_start,
     }
 }
 

@@ -37,6 +37,7 @@ pub fn tokens(alloc: Global, bytes: &[u8]) -> Result<Vec<Token>, LexRefusal>
 /// The error is want of memory, and says nothing of the text.
 ///
 /// Condition: the text has at most 1,048,576 bytes.
+#[inline(never)]
 #[tactic(auto, using(crate::proofs::Scans::for_scan))]
 pub fn tokens_up_to_fault(
     alloc: Global,
