@@ -183,9 +183,57 @@ query trace_equiv(!^2 Count | Voter(yes,s1) | Voter(no,s2),
                   !^2 Count | Voter(no,s1) | Voter(yes,s2)).
 ";
 
+/// Whether one sees whom a host knows: guest and host greet each other by sealed letters, and strangers get a decoy.
+const GREETINGS: &[u8] = b"(* Guest to host: {n,pk(guest)}. Host to guest: {n,m,pk(host)}, or a decoy (* which no one opens *). *)
+free net.
+free ska, ske, skh [private].
+fun seal/3, pk/1.
+reduc open(seal(x,r,pk(k)),k) -> x.
+
+let Guest(sk) =
+  new n; new r; out(net,seal((n,pk(sk)),r,pk(skh)));
+  in(net,x); let (=n,m,=pk(skh)) = open(x,sk) in new s; out(net,seal(m,s,pk(skh))).
+let Host(known) =
+  in(net,y); new m; new s;
+  let (n,=known) = open(y,skh) in out(net,seal((n,m,pk(skh)),s,known))
+  else new decoy; out(net,seal(decoy,s,pk(skh))).
+let Opening(one, two) = out(net,(pk(ska),pk(ske),pk(skh))); (!^2 Guest(one) | Host(pk(two))).
+
+query trace_equiv(Opening(ska,ska), Opening(ske,ska)).
+";
+
+/// Whether passports with keys from their printed page can be told from one another.
+const PASSPORTS: &[u8] = b"(* The reader sees the page, which gives fresh keys on a private channel. Signed data are known. *)
+free air.
+free page, issuer [private].
+const first, second', read, fault.
+fun mac/2, sign/2, vk/1, senc/2.
+reduc sdec(senc(x,k),k) -> x.
+reduc message(sign(x,k),vk(k)) -> x;
+      message(mac(x,k),k) -> x.
+
+let Passport(data) =
+  new ke; new km; out(page,(ke,km));
+  in(air,(x,tag));
+  if tag = mac(x,km) then
+    let =read = sdec(x,ke) in
+      let answer = senc((data,sign(data,issuer)),ke) in out(air,(answer,mac(answer,km)))
+    else out(air,fault)
+  else out(air,fault).
+let Reader(key) =
+  in(page,(ke,km)); out(air,(senc(read,ke),mac(senc(read,ke),km)));
+  in(air,(x,tag)); if message(tag,km) = x then
+  let (data,mark) = sdec(x,ke) in if message(mark,key) = data then out(page,data).
+
+query trace_equiv(
+  out(air,vk(issuer)); (Passport(first) | Reader(vk(issuer)) + Passport(second')),
+  out(air,vk(issuer)); (Passport(second') | Reader(vk(issuer)) + Passport(first))
+).
+";
+
 #[test]
 fn whole_protocols(rt: HostRuntime) -> Result<(), Fail> {
-    for text in [EVERYTHING, HASHES, VOTES] {
+    for text in [EVERYTHING, HASHES, VOTES, GREETINGS, PASSPORTS] {
         assert_eq!(&rt; fault_of(&rt, rt.alloc(), text)?, None, "in {:?}", text);
     }
     Ok(())
