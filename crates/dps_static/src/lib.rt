@@ -13,6 +13,8 @@ mod build;
 mod expand;
 mod follow;
 pub mod laws;
+#[cfg(test)]
+mod tests;
 
 use crate::expand::question;
 use crate::follow::difference;
