@@ -1,4 +1,4 @@
-//! Reads two frames from standard input, one a line, and compares them 5 times.
+//! Reads two frames from standard input, one a line, and compares them 20 times.
 #[path = "../plain/frames.rs"]
 mod frames;
 
@@ -30,7 +30,7 @@ fn main() {
     let first = frame(line);
     let second = frame(rest);
     let mut nodes = 0;
-    for _ in 0..5 {
+    for _ in 0..20 {
         nodes = match compare(std::hint::black_box(&first), std::hint::black_box(&second)) {
             Some((one, other)) => one.size() + other.size(),
             None => 0,

@@ -17,23 +17,55 @@ impl Term {
     }
 }
 
-/// A recipe of the message, if it has one.
-fn recipe(frame: &[Term], message: &Term) -> Option<Term> {
-    match frame.iter().position(|kept| kept == message) {
-        Some(i) => Some(Term::Ax(i as u32 + 1)),
-        None => composed(frame, message),
+fn mixed(digest: u64, next: u64) -> u64 {
+    digest.wrapping_mul(0x9e37_79b9_7f4a_7c15).wrapping_add(next)
+}
+
+/// A number by which most different terms are told apart.
+fn digest(term: &Term) -> u64 {
+    match term {
+        Term::App(symbol, arguments) => arguments
+            .iter()
+            .fold(mixed(4, u64::from(*symbol)), |found, argument| mixed(found, digest(argument))),
+        Term::Public(name) => mixed(1, u64::from(*name)),
+        Term::Private(name) => mixed(2, *name),
+        Term::Ax(number) => mixed(3, u64::from(*number)),
     }
 }
 
-fn composed(frame: &[Term], message: &Term) -> Option<Term> {
-    match message {
-        Term::App(symbol, arguments) => {
-            let recipes: Option<Vec<Term>> =
-                arguments.iter().map(|argument| recipe(frame, argument)).collect();
-            Some(Term::App(*symbol, recipes?))
+/// A frame, with the digest of each message.
+struct Frame<'a> {
+    messages: &'a [Term],
+    digests: Vec<u64>,
+}
+
+impl Frame<'_> {
+    fn place(&self, message: &Term) -> Option<usize> {
+        let wanted = digest(message);
+        self.digests
+            .iter()
+            .zip(self.messages)
+            .position(|(found, kept)| *found == wanted && kept == message)
+    }
+
+    /// A recipe of the message, if it has one.
+    fn recipe(&self, message: &Term) -> Option<Term> {
+        match self.place(message) {
+            Some(i) => Some(Term::Ax(i as u32 + 1)),
+            None => self.composed(message),
         }
-        Term::Public(name) => Some(Term::Public(*name)),
-        _ => None,
+    }
+
+    fn composed(&self, message: &Term) -> Option<Term> {
+        match message {
+            Term::App(symbol, arguments) => {
+                let recipes: Option<Vec<Term>> =
+                    arguments.iter().map(|argument| self.recipe(argument)).collect();
+                Some(Term::App(*symbol, recipes?))
+            }
+            Term::Public(name) => Some(Term::Public(*name)),
+            _ => None,
+        }
     }
 }
 
@@ -52,13 +84,17 @@ fn gives(frame: &[Term], recipe: &Term, message: &Term) -> bool {
 
 /// Two recipes that are equal in the first frame and not in the second.
 fn difference(first: &[Term], second: &[Term]) -> Option<(Term, Term)> {
+    let frame = Frame {
+        messages: first,
+        digests: first.iter().map(digest).collect(),
+    };
     for (i, message) in first.iter().enumerate() {
-        if let Some(place) = first.iter().position(|kept| kept == message) {
+        if let Some(place) = frame.place(message) {
             if second[place] != second[i] {
                 return Some((Term::Ax(i as u32 + 1), Term::Ax(place as u32 + 1)));
             }
         }
-        if let Some(recipe) = composed(first, message) {
+        if let Some(recipe) = frame.composed(message) {
             if !gives(second, &recipe, &second[i]) {
                 return Some((Term::Ax(i as u32 + 1), recipe));
             }

@@ -2,12 +2,12 @@
 use Rattle.std.proofs.Common.{◌≡◌, ℕ, ◌<◌, List, length, slice_get, get_or, Some, refl, ap, sym, ◌∙◌, inl, inr, arith}
 use Rattle.std.specs.Prelude.{◌⊎◌}
 use Rattle.std.proofs.lemmas.Option.{slice_get_within, slice_get-get_or}
-use Rattle.dps_terms.specs.Tree.{Leaf, entry, Tree, Trees, leaf, app, none, more}
+use Rattle.dps_terms.specs.Tree.{Tree, Trees, leaf, app, none, more}
 use Rattle.dps_terms.specs.Replace.{put_entries}
-use Rattle.dps_static.specs.Ways.{IsWay, Builds, Composes}
+use Rattle.dps_static.specs.Ways.{Builds, Composes}
 use Rattle.dps_static.specs.Follows.{Follows}
-use Rattle.dps_static.specs.Passing.{Repeats, ComposesBoth, ComposesAlike, RepeatsAt, ComposesAlikeAt}
-use Rattle.dps_static.proofs.Ways.{AreWays, put_all, first_is_one, numbered-there, IsEntryWay, entry_or_composed, composed_leaf, IsAppWay, composed_app}
+use Rattle.dps_static.specs.Passing.{ComposesAlike, RepeatsAt, ComposesAlikeAt}
+use Rattle.dps_static.proofs.Ways.{AreWays, put_all, first_is_one, numbered-there, IsEntryWay, entry_or_composed, composed_leaf, composed_app}
 
 -- what a loop over the kept trees has seen before place n
 pub record PassBefore (kept counterparts : List Tree) (n : ℕ) : Type 0 where

@@ -1,23 +1,23 @@
 -- Frames whose messages follow each other are statically equivalent where there is no rule, and a difference is a test.
-use Rattle.std.proofs.Common.{◌≡◌, ℕ, zero, suc, ◌+◌, ◌<◌, ◌≤◌, List, [], ◌∷◌, ◌++◌, length, slice_get, get_or, unwrap_or, Some, refl, ap, sym, ◌∙◌, subst, inl, inr, arith}
-use Rattle.std.specs.Prelude.{◌⊎◌, ◌↔◌, All, Contains, IsTrue}
+use Rattle.std.proofs.Common.{◌≡◌, ℕ, zero, suc, ◌<◌, ◌≤◌, List, [], ◌∷◌, ◌++◌, length, slice_get, get_or, Some, refl, ap, sym, ◌∙◌, subst, inl, inr, arith}
+use Rattle.std.specs.Prelude.{◌⊎◌, ◌↔◌, All, Contains}
 use Rattle.std.proofs.lemmas.Bool.{cases_lt}
-use Rattle.std.proofs.lemmas.Option.{slice_get_within, slice_get-get_or, unwrap_or-slice_get, get_or_from_slice_get}
+use Rattle.std.proofs.lemmas.Option.{slice_get_within, slice_get-get_or, get_or_from_slice_get}
 use Rattle.dps_terms.specs.declared.SymKind.TheVariants.{Constructor}
-use Rattle.dps_terms.specs.Tree.{Leaf, public, private, var, ax, entry, rigid, Tree, Trees, leaf, app, none, more, count}
-use Rattle.dps_terms.specs.Replace.{replace, replace_all, numbered, handles_to, in_frame, entries_to, put_entries}
-use Rattle.dps_terms.specs.Signature.{Signature, Shape, HasShape, HasArity, shapes}
-use Rattle.dps_terms.specs.Kinds.{IsBuiltOf, AreBuiltOf, IsName, IsFrameLeaf, IsPlain, IsOver, IsLeafOver, IsDeclared, IsRecipe, IsRecipeLeaf, IsClosed, IsNoVariable, AnySymbol, IsKnowledgeTree, IsKnowledgeLeaf, NoRigidName}
+use Rattle.dps_terms.specs.Tree.{Leaf, public, private, var, ax, entry, rigid, Tree, Trees, leaf, app, none, more}
+use Rattle.dps_terms.specs.Replace.{replace, replace_all, handles_to, in_frame, entries_to, put_entries}
+use Rattle.dps_terms.specs.Signature.{Signature, HasShape, HasArity, shapes}
+use Rattle.dps_terms.specs.Kinds.{AreBuiltOf, IsName, IsFrameLeaf, IsPlain, IsOver, IsLeafOver, IsDeclared, IsRecipe, IsRecipeLeaf, IsKnowledgeTree, IsKnowledgeLeaf, NoRigidName}
 use Rattle.dps_terms.proofs.Building.{count-replace_all, built_weaker, knowledge_becomes_recipes}
-use Rattle.dps_theory.specs.Theory.{Theory, Rule}
-use Rattle.dps_theory.specs.Evaluation.{Evaluates, EvaluateAll, Reduces, named, constructed, reduced, no_terms, a_term, AreEqual}
-use Rattle.dps_theory.specs.Frames.{IsFrame, Succeeds, HaveOneValue, AreStaticallyEquivalent, Separates, equal}
+use Rattle.dps_theory.specs.Theory.{Theory}
+use Rattle.dps_theory.specs.Evaluation.{Evaluates, EvaluateAll, named, constructed, reduced, no_terms, a_term}
+use Rattle.dps_theory.specs.Frames.{IsFrame, Succeeds, HaveOneValue, AreStaticallyEquivalent, Separates}
 use Rattle.dps_theory.proofs.Equivalence.{not_told_apart}
 use Rattle.dps_theory.proofs.Evaluating.{plain_evaluates}
-use Rattle.dps_static.specs.Ways.{AnyName, IsWay, Builds}
+use Rattle.dps_static.specs.Ways.{IsWay, Builds}
 use Rattle.dps_static.specs.Follows.{Follows, IsDifference}
 use Rattle.dps_static.specs.Handles.{handles, equality}
-use Rattle.dps_static.specs.Answer.{free_theory, test_of, TellsApart, IsAnswer}
+use Rattle.dps_static.specs.Answer.{free_theory, test_of, IsAnswer}
 use Rattle.dps_static.specs.declared.Comparison.{Comparison}
 use Rattle.dps_static.specs.declared.Comparison.TheVariants.{Same, Differ}
 use Rattle.dps_static.specs.declared.follow.TwoWays.{TwoWays}

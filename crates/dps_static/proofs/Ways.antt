@@ -1,18 +1,16 @@
 -- Ways by their roots.
-use Rattle.std.proofs.Common.{◌≡◌, ℕ, zero, suc, ◌+◌, ◌<◌, ◌≤◌, List, [], ◌∷◌, ◌++◌, length, slice_get, unwrap_or, get_or, map, take, Option, Some, None, refl, ap, sym, ◌∙◌, subst, inl, inr, arith}
-use Rattle.std.specs.Prelude.{◌⊎◌, All}
+use Rattle.std.proofs.Common.{◌≡◌, ℕ, zero, suc, ◌+◌, ◌<◌, ◌≤◌, List, [], ◌∷◌, ◌++◌, length, slice_get, unwrap_or, get_or, map, take, Some, refl, ap, sym, ◌∙◌, inl, inr, arith}
+use Rattle.std.specs.Prelude.{◌⊎◌}
 use Rattle.std.specs.Option.{option_map}
 use Rattle.std.proofs.lemmas.List.{map-append, length-map, take_all, take_more}
 use Rattle.std.proofs.lemmas.Option.{none-some, slice_get_within, slice_get-get_or, unwrap_or-slice_get, get_or_from_slice_get, slice_get-map}
 use Rattle.dps_terms.specs.declared.Sym.{Sym}
-use Rattle.dps_terms.specs.declared.PublicName.{PublicName}
-use Rattle.dps_terms.specs.declared.borrowed.TermView.{TermView}
-use Rattle.dps_terms.specs.declared.borrowed.TermView.TheVariants.{App, Public}
+use Rattle.dps_terms.specs.declared.borrowed.TermView.TheVariants.{App}
 use Rattle.dps_terms.specs.Tree.{Leaf, public, private, var, ax, entry, rigid, Tree, Trees, leaf, app, none, more, list_of, trees}
 use Rattle.dps_terms.specs.Views.{leaf_view, view_of, arguments}
 use Rattle.dps_terms.specs.Replace.{replace_all, numbered, entries_to, put_entries}
 use Rattle.dps_terms.specs.Kinds.{IsBuiltOf, AreBuiltOf, AnySymbol, IsNoVariable, IsKnowledgeLeaf, NoRigidName}
-use Rattle.dps_static.specs.Ways.{AnyName, IsWay, Builds, IsNotBuilt, Composes, IsNotComposed, IsFirst, IsNotKept}
+use Rattle.dps_static.specs.Ways.{AnyName, IsWay, Builds, IsNotBuilt, Composes, IsNotComposed, IsFirst}
 
 -- a list of ways
 pub record AreWays (n : ℕ) (ways : Trees) : Type 0 where
@@ -34,11 +32,6 @@ numbered-there kept k tree other e = ap (λ o. unwrap_or o other) e
 pub there-numbered : (kept : List Tree) (k : ℕ) (tree other : Tree) → k < length kept → numbered kept (suc k) other ≡ tree → slice_get kept k ≡ Some tree
 there-numbered kept k tree other h e =
     slice_get-get_or kept k other h ∙ ap Some (sym (unwrap_or-slice_get kept k other) ∙ e)
-
-pub entry_builds : (kept : List Tree) (k : ℕ) (tree : Tree) → slice_get kept k ≡ Some tree → Builds kept tree (leaf (entry (suc k)))
-entry_builds kept k tree e =
-    let h = slice_get_within kept k tree e in
-    record { is_way = (tt, (omega arith, omega (arith, h))); gives = numbered-there kept k tree _ e }
 
 -- a way is an entry alone, or more
 pub record IsEntryWay (kept : List Tree) (tree way : Tree) : Type 0 where
@@ -98,9 +91,6 @@ pub record AreListedWays (n : ℕ) (ways : List Tree) : Type 0 where
   pub closed : AreBuiltOf IsNoVariable AnySymbol (trees ways)
   pub known : AreBuiltOf (IsKnowledgeLeaf AnyName NoRigidName n) AnySymbol (trees ways)
 
-pub no_listed_ways : (n : ℕ) → AreListedWays n []
-no_listed_ways n = record { closed = tt; known = tt }
-
 built_further : (L : Leaf → Type 0) (ts : List Tree) (t : Tree) → AreBuiltOf L AnySymbol (trees ts) → IsBuiltOf L AnySymbol t → AreBuiltOf L AnySymbol (trees (ts ++ t ∷ []))
 built_further L [] t a b = (b, tt)
 built_further L (u ∷ ts) t a b = (a.0, built_further L ts t a.1 b)
@@ -128,12 +118,12 @@ pub put_all-trees : (kept ts : List Tree) → put_all kept (trees ts) ≡ trees 
 put_all-trees kept [] = refl
 put_all-trees kept (t ∷ ts) = ap (more (put_entries kept t)) (put_all-trees kept ts)
 
-trees-list_of : (ts : Trees) → trees (list_of ts) ≡ ts
+pub trees-list_of : (ts : Trees) → trees (list_of ts) ≡ ts
 trees-list_of none = refl
 trees-list_of (more t ts) = ap (more t) (trees-list_of ts)
 
 -- a leaf shows no symbol
-no_app_leaf : (x : Leaf) (f : Sym) → App f ≡ leaf_view x → ⊥
+pub no_app_leaf : (x : Leaf) (f : Sym) → App f ≡ leaf_view x → ⊥
 no_app_leaf (public n) f v = cc
 no_app_leaf (private n) f v = cc
 no_app_leaf (var n) f v = cc
@@ -168,20 +158,6 @@ argument_not_built kept (leaf x) argument i d nothing way c = absurd (none-some 
 argument_not_built kept (app f ts) argument i d nothing way c =
     let p = composed_app kept f ts way c in
     let w = nth_way kept ts p.arguments i argument p.are_ways p.give d in nothing w.0 w.1
-
--- a leaf that is no public name is composed in no way
-leaf_composed : (kept : List Tree) (x : Leaf) → Composes kept (leaf x) (leaf x) → ((a : PublicName) → Public a ≡ leaf_view x → ⊥) → ⊥
-leaf_composed kept (public a) c h = h a refl
-leaf_composed kept (private n) c h = c.builds.is_way.1
-leaf_composed kept (var n) c h = c.builds.is_way.0
-leaf_composed kept (ax j) c h = c.builds.is_way.1
-leaf_composed kept (entry i) c h = c.root
-leaf_composed kept (rigid n) c h = c.builds.is_way.1
-
-pub leaf_not_composed : (kept : List Tree) (tree : Tree) → ((f : Sym) → App f ≡ view_of tree → ⊥) → ((a : PublicName) → Public a ≡ view_of tree → ⊥) → IsNotComposed kept tree
-leaf_not_composed kept (app f ts) no_symbol no_name way c = no_symbol f refl
-leaf_not_composed kept (leaf x) no_symbol no_name way c =
-    leaf_composed kept x (subst (Composes kept (leaf x)) (composed_leaf kept x way c) c) no_name
 
 -- a symbol over ways builds a tree where the ways build the arguments
 pub put_all-list_of : (kept : List Tree) (ts : Trees) → list_of (put_all kept ts) ≡ map (put_entries kept) (list_of ts)

@@ -1,37 +1,56 @@
 //! Ways to build a tree from kept ones.
-ghost use Rattle.std.specs.Prelude.{◌≡◌, ◌<◌, ◌↔◌, IfOk, IfSome, IsTrue, MatchOption, length, slice_get, unwrap_or};
+ghost use Rattle.std.specs.Prelude.{◌≡◌, ◌+◌, ◌<◌, ◌^◌, ◌↔◌, suc, IfOk, IsTrue, MatchOption, map, unwrap_or};
 ghost use Rattle.std.specs.Option.{option_copied};
-ghost use Rattle.dps_terms.specs.Tree.{Tree};
+ghost use Rattle.dps_terms.specs.Tree.{Tree, leaf, entry};
 ghost use Rattle.dps_terms.specs.Replace.{numbered, put_entries};
 ghost use Rattle.dps_terms.specs.Seen.{seen};
+ghost use Rattle.dps_static.specs.Digest.{digest};
 ghost use Rattle.dps_static.specs.Ways.{Builds, Composes, IsFirst, IsNotBuilt, IsNotComposed, IsNotKept};
 
+use crate::digest::digest;
 use dps_terms::{NoMemory, Term, TermRef, TermView};
 use std::alloc::{AllocError, Global};
 
 /// The first place, counted from 0, at which the tree is kept, and `None` exactly where it is not kept.
-pub(crate) fn place(kept: &[Term], tree: TermRef<'_>) -> Option<usize>
+pub(crate) fn place(kept: &[Term], digests: &[u64], tree: TermRef<'_>) -> Option<usize>
+    requires { digests.now ≡ map digest kept.now }
     ensures { MatchOption result (IsNotKept kept.now (seen tree.entry)) (IsFirst kept.now (seen tree.entry)) }
 {
-    for (i, term) in kept.iter().enumerate() {
-        if term.whole().equals(tree) {
+    let wanted = digest(tree);
+    for (i, found) in digests.iter().enumerate() {
+        if *found == wanted && kept[i].whole().equals(tree) {
             return Some(i);
         }
     }
     None
 }
 
+/// The entry of a place that is counted from 0.
+pub(crate) fn entry_at(alloc: Global, place: usize) -> Result<Term, NoMemory>
+    requires { place + 1 < 2 ^ 64 }
+    ensures { IfOk result (λ t. t ≡ leaf (entry (suc place))) }
+{
+    let entry = Term::entry(alloc, place as u64 + 1)?;
+    Ok(entry)
+}
+
 /// A way to build the tree, and `None` exactly where there is none.
 #[cycle(build)]
-pub(crate) fn way(alloc: Global, kept: &[Term], tree: TermRef<'_>) -> Result<Option<Term>, NoMemory>
+pub(crate) fn way(
+    alloc: Global,
+    kept: &[Term],
+    digests: &[u64],
+    tree: TermRef<'_>,
+) -> Result<Option<Term>, NoMemory>
+    requires { digests.now ≡ map digest kept.now }
     ensures { IfOk result (λ o. MatchOption o (IsNotBuilt kept.now (seen tree.entry)) (Builds kept.now (seen tree.entry))) }
 {
-    match place(kept, tree) {
+    match place(kept, digests, tree) {
         Some(i) => {
-            let entry = Term::entry(alloc, i as u64 + 1)?;
+            let entry = entry_at(alloc, i)?;
             Ok(Some(entry))
         }
-        None => composed(alloc, kept, tree),
+        None => composed(alloc, kept, digests, tree),
     }
 }
 
@@ -40,15 +59,17 @@ pub(crate) fn way(alloc: Global, kept: &[Term], tree: TermRef<'_>) -> Result<Opt
 pub(crate) fn composed(
     alloc: Global,
     kept: &[Term],
+    digests: &[u64],
     tree: TermRef<'_>,
 ) -> Result<Option<Term>, NoMemory>
+    requires { digests.now ≡ map digest kept.now }
     ensures { IfOk result (λ o. MatchOption o (IsNotComposed kept.now (seen tree.entry)) (Composes kept.now (seen tree.entry))) }
 {
     match tree.view() {
         TermView::App(sym) => {
-            let mut arguments = Vec::new(alloc);
+            let mut arguments = Vec::with_capacity(alloc, tree.arity() as usize)?;
             for i in 0..tree.arity() {
-                match way(alloc, kept, tree.argument(i))? {
+                match way(alloc, kept, digests, tree.argument(i))? {
                     Some(argument) => arguments.push(argument)?,
                     None => return Ok(None),
                 }

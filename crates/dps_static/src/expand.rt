@@ -28,7 +28,7 @@ fn expanded(alloc: Global, recipes: &[Term], way: TermRef<'_>) -> Result<Term, N
 {
     match way.view() {
         TermView::App(sym) => {
-            let mut arguments = Vec::new(alloc);
+            let mut arguments = Vec::with_capacity(alloc, way.arity() as usize)?;
             for i in 0..way.arity() {
                 let argument = expanded(alloc, recipes, way.argument(i))?;
                 arguments.push(argument)?;

@@ -1,8 +1,11 @@
 //! Whether counterparts follow the kept trees.
-ghost use Rattle.std.specs.Prelude.{◌≡◌, ◌+◌, ◌<◌, ◌^◌, suc, IfOk, MatchOption, length};
-ghost use Rattle.dps_terms.specs.Tree.{leaf, entry};
+ghost use Rattle.std.specs.Prelude.{◌≡◌, ◌<◌, IfOk, MatchOption, length, map};
+ghost use Rattle.dps_static.specs.Digest.{digest};
+ghost use Rattle.dps_static.specs.Follows.{Follows, IsDifference};
+ghost use Rattle.dps_static.specs.Passing.{RepeatsAt, ComposesAlikeAt};
 
-use crate::build::{builds, composed, place};
+use crate::build::{builds, composed, entry_at, place};
+use crate::digest::digests;
 use dps_terms::{NoMemory, Term};
 use std::alloc::{AllocError, Global};
 
@@ -13,30 +16,20 @@ pub(crate) struct TwoWays {
     pub(crate) other: Term,
 }
 
-ghost use Rattle.dps_static.specs.Follows.{Follows, IsDifference};
-ghost use Rattle.dps_static.specs.Passing.{RepeatsAt, ComposesAlikeAt};
-
-/// The entry of a place that is counted from 0.
-fn entry_at(alloc: Global, place: usize) -> Result<Term, NoMemory>
-    requires { place + 1 < 2 ^ 64 }
-    ensures { IfOk result (λ t. t ≡ leaf (entry (suc place))) }
-{
-    let entry = Term::entry(alloc, place as u64 + 1)?;
-    Ok(entry)
-}
-
 /// A difference where a tree that is kept before, too, had another counterpart there; `None` only where it had not.
 fn repeated(
     alloc: Global,
     kept: &[Term],
+    digests: &[u64],
     counterparts: &[Term],
     index: usize,
 ) -> Result<Option<TwoWays>, NoMemory>
+    requires told { digests.now ≡ map digest kept.now }
     requires lengths { length kept.now ≡ length counterparts.now }
     requires there { index < length kept.now }
     ensures { IfOk result (λ o. MatchOption o (RepeatsAt kept.now counterparts.now index) (IsDifference kept.now counterparts.now)) }
 {
-    match place(kept, kept[index].whole()) {
+    match place(kept, digests, kept[index].whole()) {
         Some(first) => {
             if counterparts[first].equals(&counterparts[index]) {
                 return Ok(None);
@@ -53,14 +46,16 @@ fn repeated(
 fn recomposed(
     alloc: Global,
     kept: &[Term],
+    digests: &[u64],
     counterparts: &[Term],
     index: usize,
 ) -> Result<Option<TwoWays>, NoMemory>
+    requires told { digests.now ≡ map digest kept.now }
     requires lengths { length kept.now ≡ length counterparts.now }
     requires there { index < length kept.now }
     ensures { IfOk result (λ o. MatchOption o (ComposesAlikeAt kept.now counterparts.now index) (IsDifference kept.now counterparts.now)) }
 {
-    match composed(alloc, kept, kept[index].whole())? {
+    match composed(alloc, kept, digests, kept[index].whole())? {
         Some(other) => {
             if builds(counterparts, other.whole(), counterparts[index].whole()) {
                 return Ok(None);
@@ -81,11 +76,12 @@ pub(crate) fn difference(
     requires { length kept.now ≡ length counterparts.now }
     ensures { IfOk result (λ o. MatchOption o (Follows kept.now counterparts.now) (IsDifference kept.now counterparts.now)) }
 {
+    let found = digests(alloc, kept)?;
     for index in 0..kept.len() {
-        if let Some(ways) = repeated(alloc, kept, counterparts, index)? {
+        if let Some(ways) = repeated(alloc, kept, &found, counterparts, index)? {
             return Ok(Some(ways));
         }
-        if let Some(ways) = recomposed(alloc, kept, counterparts, index)? {
+        if let Some(ways) = recomposed(alloc, kept, &found, counterparts, index)? {
             return Ok(Some(ways));
         }
     }

@@ -10,6 +10,7 @@ ghost use Rattle.std.specs.Prelude.{◌≡◌, ◌<◌, ◌^◌, IfOk, length};
 ghost use Rattle.dps_static.specs.Answer.{IsAnswerWithoutRules};
 
 mod build;
+mod digest;
 mod expand;
 mod follow;
 pub mod laws;

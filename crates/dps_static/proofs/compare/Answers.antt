@@ -1,5 +1,4 @@
-use Rattle.std.proofs.Common.{◌≡◌, length, refl, sym, inl, inr}
-use Rattle.dps_static.specs.Answer.{free_theory, test_of, TellsApart}
+use Rattle.std.proofs.Common.{length, refl, sym, inl, inr}
 use Rattle.dps_static.specs.Follows.{Follows, IsDifference}
 use Rattle.dps_static.proofs.Frames.{equivalent, separates}
 use Rattle.dps_static.proofs.compare.Goals as goal

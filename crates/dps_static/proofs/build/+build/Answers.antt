@@ -1,4 +1,4 @@
-use Rattle.std.proofs.Common.{◌≡◌, ℕ, ◌+◌, ◌*◌, ◌<◌, ◌≤◌, length, arith}
+use Rattle.std.proofs.Common.{◌≤◌, length, arith}
 use Rattle.dps_terms.specs.Replace.{put_entries}
 use Rattle.dps_terms.specs.Seen.{seen}
 use Rattle.dps_terms.specs.Smaller.{argument_is_smaller}
@@ -10,7 +10,7 @@ use Rattle.dps_static.proofs.build.+build.Goals as goal
 pub composed-way-requires : goal.composed-way-requires
 composed-way-requires t c =
     let h = argument_is_smaller (seen c.args.tree) c.loop-i.i (seen c.argument.result) c.argument.ensures in
-    (omega (arith, h, c.decreases), tt)
+    (omega (arith, h, c.decreases), c.requires)
 
 pub composed-returns-in-None : goal.composed-returns-in-None
 composed-returns-in-None t c =

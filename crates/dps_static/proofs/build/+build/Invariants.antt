@@ -1,5 +1,4 @@
 use Rattle.std.proofs.Common.{◌≡◌, ◌+◌, ◌*◌, length, map, take, vec_len}
-use Rattle.std.specs.Prelude.{All}
 use Rattle.dps_terms.specs.Tree.{node_count}
 use Rattle.dps_terms.specs.Views.{arguments}
 use Rattle.dps_terms.specs.Replace.{put_entries}

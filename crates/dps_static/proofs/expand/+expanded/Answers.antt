@@ -1,4 +1,4 @@
-use Rattle.std.proofs.Common.{◌≡◌, ℕ, ◌+◌, ◌*◌, ◌<◌, ◌≤◌, length, arith, sym, ◌∙◌}
+use Rattle.std.proofs.Common.{◌≤◌, length, arith, ◌∙◌}
 use Rattle.dps_terms.specs.Replace.{put_entries}
 use Rattle.dps_terms.specs.Seen.{seen}
 use Rattle.dps_terms.specs.Smaller.{argument_is_smaller}
