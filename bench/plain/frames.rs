@@ -18,7 +18,8 @@ impl Term {
 }
 
 fn mixed(digest: u64, next: u64) -> u64 {
-    digest.wrapping_mul(0x9e37_79b9_7f4a_7c15).wrapping_add(next)
+    let found = digest.wrapping_mul(0x9e37_79b9_7f4a_7c15).wrapping_add(next);
+    found ^ (found >> 32)
 }
 
 /// A number by which most different terms are told apart.

@@ -1,11 +1,11 @@
 -- A number of a tree, by which most different trees are told apart without a walk.
-use Rattle.std.specs.Prelude.{ℕ, ◌+◌, ◌*◌, ◌%◌, ◌^◌}
+use Rattle.std.specs.Prelude.{ℕ, ◌+◌, ◌*◌, ◌/◌, ◌%◌, ◌^◌, bit_xor}
 use Rattle.dps_terms.specs.declared.PublicName.TheVariants.{Declared, At}
 use Rattle.dps_terms.specs.Tree.{Leaf, public, private, var, ax, entry, rigid, Tree, Trees, leaf, app, none, more}
 
 -- one more number in a digest
 unfoldable pub mixed : ℕ → ℕ → ℕ
-mixed digest next = ((digest * 0x9e3779b97f4a7c15) % 2 ^ 64 + next) % 2 ^ 64
+mixed digest next = let found = ((digest * 0x9e3779b97f4a7c15) % 2 ^ 64 + next) % 2 ^ 64 in bit_xor found (found / 2 ^ 32)
 
 -- the kind of the leaf, and its number
 abbrev pub leaf_digest : Leaf → ℕ

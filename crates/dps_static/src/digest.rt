@@ -11,9 +11,10 @@ use std::alloc::{AllocError, Global};
 fn mixed(digest: u64, next: u64) -> u64
     ensures { result ≡ mixed digest next }
 {
-    digest
+    let found = digest
         .wrapping_mul(0x9e37_79b9_7f4a_7c15)
-        .wrapping_add(next)
+        .wrapping_add(next);
+    found ^ (found >> 32)
 }
 
 /// The digest of a tree: equal trees have equal ones, and others seldom do.
