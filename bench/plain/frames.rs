@@ -51,6 +51,9 @@ impl Frame<'_> {
 
     /// A recipe of the message, if it has one.
     fn recipe(&self, message: &Term) -> Option<Term> {
+        if let Term::Public(name) = message {
+            return Some(Term::Public(*name));
+        }
         match self.place(message) {
             Some(i) => Some(Term::Ax(i as u32 + 1)),
             None => self.composed(message),

@@ -45,6 +45,11 @@ pub(crate) fn way(
     requires { digests.now ≡ map digest kept.now }
     ensures { IfOk result (λ o. MatchOption o (IsNotBuilt kept.now (seen tree.entry)) (Builds kept.now (seen tree.entry))) }
 {
+    // A public name needs no look-up.
+    if let TermView::Public(name) = tree.view() {
+        let term = Term::public(alloc, name)?;
+        return Ok(Some(term));
+    }
     match place(kept, digests, tree) {
         Some(i) => {
             let entry = entry_at(alloc, i)?;
