@@ -16,7 +16,8 @@ pub(crate) struct TwoWays {
     pub(crate) other: Term,
 }
 
-/// A difference where a tree that is kept before, too, had another counterpart there; `None` only where it had not.
+/// The entries of two places that keep this tree with different counterparts: this place and the first. `None` where the
+/// first one's counterpart is the same.
 fn repeated(
     alloc: Global,
     kept: &[Term],
@@ -42,7 +43,8 @@ fn repeated(
     }
 }
 
-/// A difference where a kept tree is composed in a way that does not build its counterpart; `None` only where it is not.
+/// The entry of this place, and a way that composes the kept tree and does not build its counterpart. `None` where the tree
+/// is not composed at all, or where the way builds the counterpart too.
 fn recomposed(
     alloc: Global,
     kept: &[Term],
