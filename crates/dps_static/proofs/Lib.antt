@@ -1,0 +1,4 @@
+pub mod Ways
+pub mod Following
+pub mod Frames
+pub mod Digesting
