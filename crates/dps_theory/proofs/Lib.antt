@@ -6,3 +6,4 @@ pub mod FreshNames
 pub mod NamesUnseen
 pub mod Encryption
 pub mod Hiding
+pub mod Shapes

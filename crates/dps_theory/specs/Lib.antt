@@ -3,3 +3,5 @@ pub mod Evaluation
 pub mod Frames
 pub mod Laws
 pub mod Examples
+pub mod Stored
+pub mod Held
