@@ -1,0 +1,6 @@
+pub mod Order
+pub mod Unifier
+pub mod Chain
+pub mod Difference
+pub mod Forced
+pub mod Unified
