@@ -6,3 +6,5 @@ pub mod Pairs
 pub mod Reached
 pub mod Unifying
 pub mod Solving
+pub mod Matched
+pub mod Renamed

@@ -53,7 +53,7 @@ among_argument v none k = elim k [ ]
 among_argument v (more t ts) (in_first k) = (0, t, refl, k)
 among_argument v (more t ts) (in_rest k) = let h = among_argument v ts k in (suc h.0, h.1, h.2, h.3)
 
-below_root : (m : ℕ) (t : Tree) → ((n : ℕ) → view_of t ≡ Var n → ⊥) → StandsIn (var m) t → (i : ℕ) × (u : Tree) × (slice_get (arguments t) i ≡ Some u) × StandsIn (var m) u
+pub below_root : (m : ℕ) (t : Tree) → ((n : ℕ) → view_of t ≡ Var n → ⊥) → StandsIn (var m) t → (i : ℕ) × (u : Tree) × (slice_get (arguments t) i ≡ Some u) × StandsIn (var m) u
 below_root m (leaf x) avoided k = let e = in_leaf x (leaf (var m)) k in absurd (avoided m (ap view_of (sym e)))
 below_root m (app f ts) avoided (below k) = among_argument (leaf (var m)) ts k
 

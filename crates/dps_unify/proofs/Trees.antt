@@ -91,7 +91,7 @@ occurs_check r n (app f ts) k other e =
     app_cases u g us (below m) = inr m
 
 -- trees with alike roots over the same arguments
-same_view : (x y : Leaf) → view_of (leaf x) ≡ view_of (leaf y) → x ≡ y
+pub same_view : (x y : Leaf) → view_of (leaf x) ≡ view_of (leaf y) → x ≡ y
 same_view (public m) (public n) e = let d : m ≡ n = cc in ap public d
 same_view (private m) (private n) e = let d : m ≡ n = cc in ap private d
 same_view (var m) (var n) e = let d : m ≡ n = cc in ap var d
@@ -100,7 +100,7 @@ same_view (entry m) (entry n) e = let d : m ≡ n = cc in ap entry d
 same_view (rigid m) (rigid n) e = let d : m ≡ n = cc in ap rigid d
 same_view _ _ e = cc
 
-leaf_is_no_app : (x : Leaf) (f : Sym) → view_of (leaf x) ≡ App f → ⊥
+pub leaf_is_no_app : (x : Leaf) (f : Sym) → view_of (leaf x) ≡ App f → ⊥
 leaf_is_no_app (public m) f e = cc
 leaf_is_no_app (private m) f e = cc
 leaf_is_no_app (var m) f e = cc

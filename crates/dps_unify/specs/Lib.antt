@@ -4,3 +4,5 @@ pub mod Chain
 pub mod Difference
 pub mod Forced
 pub mod Unified
+pub mod Matching
+pub mod Renaming

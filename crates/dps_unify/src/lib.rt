@@ -8,10 +8,14 @@
 mod binding;
 mod bindings;
 mod difference;
+mod matching;
 mod order;
 mod reaching;
+mod renaming;
 mod solution;
 mod unifier;
 
+pub use matching::matches;
 pub use order::VarOrder;
+pub use renaming::rename;
 pub use unifier::mgu;
