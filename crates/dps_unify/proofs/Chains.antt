@@ -202,7 +202,7 @@ module _ (b : List (ℕ × Tree)) (h : IsChain b) (x : ℕ) (v : Tree) (free : b
         let here : substitute r (put x) ≡ r x = ap (substitute r) put_here ∙ general_tree b h r before v ∙ sym (fulfils_here r f) in
         substitute_in_turn r put (solved b n)
         ∙ substitute_agrees (λ m. substitute r (put m)) r (solved b n)
-          (λ m k. elim (put_at m) [ inl d ↦ ap (λ j. substitute r (put j)) d.0 ∙ here ∙ ap r (sym d.0) | inr d ↦ ap (substitute r) d.1 ])
+        (λ m k. elim (put_at m) [ inl d ↦ ap (λ j. substitute r (put j)) d.0 ∙ here ∙ ap r (sym d.0) | inr d ↦ ap (substitute r) d.1 ])
         ∙ h.general r before n
 
     stays_after : (n : ℕ) → bound (b ++ (x, v) ∷ []) n ≡ None → after n ≡ leaf (var n)

@@ -201,10 +201,10 @@ match_found free p t s e empty h =
           h.matches (image s)
           (λ n out. elim (cases_option (bound s n)) [ inl b ↦ image_none s n b | inr b ↦ absurd (out (inside n b.0 b.1).0) ])
           (λ n v b. image_some s n v b);
-      binds = λ n.
-          ( λ some. elim (cases_option (bound s n)) [ inl b ↦ let k = subst IsSome b some in cc | inr b ↦ inside n b.0 b.1 ]
-          , λ k. let b = h.covers n k.0 k.1 in is_some_of (bound s n) b.0 b.1
-          );
+      binds = λ n. (
+        λ some. elim (cases_option (bound s n)) [ inl b ↦ let k = subst IsSome b some in cc | inr b ↦ inside n b.0 b.1 ],
+        λ k. let b = h.covers n k.0 k.1 in is_some_of (bound s n) b.0 b.1,
+      );
     }
 
 pub no_match : (free : List ℕ) (p t : Tree) (e : List (ℕ × Tree)) → e ≡ [] → Refused free e p t → (r : ℕ → Tree) → Keeps free r → substitute r p ≡ t → ⊥

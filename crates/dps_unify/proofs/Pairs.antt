@@ -20,9 +20,9 @@ pub unifies-append : (r : ℕ → Tree) (ps qs : List (Tree × Tree)) → Unifie
 unifies-append r [] qs = (λ h. (All-nil (λ p. substitute r p.0 ≡ substitute r p.1), h), λ h. h.1)
 unifies-append r (p ∷ ps) qs =
     let P = λ (q : Tree × Tree). substitute r q.0 ≡ substitute r q.1 in
-    let rest = unifies-append r ps qs in
-    ( λ h. let k = rest.0 (All-tail P p (ps ++ qs) h) in (All-cons P p ps (All-head P p (ps ++ qs) h) k.0, k.1)
-    , λ h. All-cons P p (ps ++ qs) (All-head P p ps h.0) (rest.1 (All-tail P p ps h.0, h.1))
+    let rest = unifies-append r ps qs in (
+      λ h. let k = rest.0 (All-tail P p (ps ++ qs) h) in (All-cons P p ps (All-head P p (ps ++ qs) h) k.0, k.1),
+      λ h. All-cons P p (ps ++ qs) (All-head P p ps h.0) (rest.1 (All-tail P p ps h.0, h.1)),
     )
 
 pub unifies_one : (r : ℕ → Tree) (p : Tree × Tree) → Unifies r (p ∷ []) ↔ (substitute r p.0 ≡ substitute r p.1)
@@ -127,9 +127,9 @@ module _ (b : List (ℕ × Tree)) (before now rest : List (Tree × Tree)) (t u a
   apart_now : (r : ℕ → Tree) → Fulfils r b → Unifies r now ↔ (Unifies r rest × (substitute r a ≡ substitute r c))
   apart_now r f =
       let ends = unifies-append r rest ((t, u) ∷ []) in
-      let one = unifies_one r (t, u) in
-      ( λ k. let l = ends.0 (subst (Unifies r) is k) in (l.0, left.same r f ∙ one.0 l.1 ∙ sym (right.same r f))
-      , λ k. subst (Unifies r) (sym is) (ends.1 (k.0, one.1 (sym (left.same r f) ∙ k.1 ∙ right.same r f)))
+      let one = unifies_one r (t, u) in (
+        λ k. let l = ends.0 (subst (Unifies r) is k) in (l.0, left.same r f ∙ one.0 l.1 ∙ sym (right.same r f)),
+        λ k. subst (Unifies r) (sym is) (ends.1 (k.0, one.1 (sym (left.same r f) ∙ k.1 ∙ right.same r f))),
       )
 
   in_rest : (n : ℕ) → IsVariableOf rest n → IsVariableOf before n ⊎ IsHeld b n
@@ -160,9 +160,9 @@ module _ (b : List (ℕ × Tree)) (before now rest : List (Tree × Tree)) (t u a
           let before_now = h.same r f in
           let split = apart_now r f in
           let ends = unifies-append r rest (zip (arguments a) (arguments c)) in
-          let below = unified_arguments r a c alike in
-          ( λ k. let l = split.0 (before_now.0 k) in subst (Unifies r) (sym is_after) (ends.1 (l.0, below.0 l.1))
-          , λ k. let l = ends.0 (subst (Unifies r) is_after k) in before_now.1 (split.1 (l.0, below.1 l.1))
+          let below = unified_arguments r a c alike in (
+            λ k. let l = split.0 (before_now.0 k) in subst (Unifies r) (sym is_after) (ends.1 (l.0, below.0 l.1)),
+            λ k. let l = ends.0 (subst (Unifies r) is_after k) in before_now.1 (split.1 (l.0, below.1 l.1)),
           );
       within = λ n k.
           elim (any_append (StandsInPair n) rest (zip (arguments a) (arguments c)) (subst (λ ps. IsVariableOf ps n) is_after k)) [
@@ -173,15 +173,15 @@ module _ (b : List (ℕ × Tree)) (before now rest : List (Tree × Tree)) (t u a
 
     pub weight_falls : IsChain b → weight (solved b) after < weight (solved b) now
     weight_falls chain =
-        omega
-          ( arith
-          , ap (weight (solved b)) is
-          , ap (weight (solved b)) is_after
-          , weight-append (solved b) rest ((t, u) ∷ [])
-          , weight-append (solved b) rest (zip (arguments a) (arguments c))
-          , weight_arguments (solved b) a (arguments c)
-          , ap node_count (left.same (solved b) chain.fulfilled)
-          )
+        omega (
+          arith,
+          ap (weight (solved b)) is,
+          ap (weight (solved b)) is_after,
+          weight-append (solved b) rest ((t, u) ∷ []),
+          weight-append (solved b) rest (zip (arguments a) (arguments c)),
+          weight_arguments (solved b) a (arguments c),
+          ap node_count (left.same (solved b) chain.fulfilled),
+        )
 
 -- borrowed pairs, one more
 pub pairs_push : (ds : List Parts) (d : Parts) → pairs_of (ds ++ d ∷ []) ≡ pairs_of ds ++ (seen d.left, seen d.right) ∷ []

@@ -67,9 +67,9 @@ avoids_all x z t i avoided h l k =
 pub variable_reached : (b : List (ℕ × Tree)) → IsChain b → (t : Tree) (n x : ℕ) → Var n ≡ view_of t → IsResolved b t → IsTrue (nat_eq n x) ↔ StandsIn (var x) (substitute (solved b) t)
 variable_reached b h t n x e loose =
     let d : t ≡ leaf (var n) = var_from_view t n (sym e) in
-    let a : substitute (solved b) t ≡ leaf (var n) = ap (substitute (solved b)) d ∙ h.stays n (loose n d) in
-    ( λ k. subst (λ u. StandsIn (var x) u) (sym a) (subst (λ m. StandsIn (var x) (leaf (var m))) (sym (eqb-true n x k)) itself)
-    , λ k. let m = in_leaf (var n) (leaf (var x)) (subst (λ u. StandsIn (var x) u) a k) in eq-eqb n x (cc)
+    let a : substitute (solved b) t ≡ leaf (var n) = ap (substitute (solved b)) d ∙ h.stays n (loose n d) in (
+      λ k. subst (λ u. StandsIn (var x) u) (sym a) (subst (λ m. StandsIn (var x) (leaf (var m))) (sym (eqb-true n x k)) itself),
+      λ k. let m = in_leaf (var n) (leaf (var x)) (subst (λ u. StandsIn (var x) u) a k) in eq-eqb n x (cc),
     )
 
 -- what a variable that was passed becomes

@@ -135,9 +135,9 @@ unified_arguments r (leaf x) (leaf y) h = (λ _. All-nil (λ p. substitute r p.0
 unified_arguments r (leaf x) (app g us) h = absurd (leaf_is_no_app x g h.0)
 unified_arguments r (app f ts) (leaf y) h = absurd (leaf_is_no_app y f (sym h.0))
 unified_arguments r (app f ts) (app g us) h =
-    let v = h.0 in let d : f ≡ g = cc in
-    ( λ e. all_equal r ts us (let k : substitute_all r ts ≡ substitute_all r us = cc in k)
-    , λ u. let k = equal_all r ts us h.1 u in λ i. app (d i) (k i)
+    let v = h.0 in let d : f ≡ g = cc in (
+      λ e. all_equal r ts us (let k : substitute_all r ts ≡ substitute_all r us = cc in k),
+      λ u. let k = equal_all r ts us h.1 u in λ i. app (d i) (k i),
     )
 
 -- a root that is no variable stays under a substitution

@@ -186,13 +186,13 @@ module _ (levels : List (ℕ × ℕ)) (pairs : List (Tree × Tree)) (b : List (�
       progress_step = subst (λ s. Progress levels pairs s rest) (sym is) (record {
         chain = chain_push b h.chain x v forced_is_free term_is_resolved absent;
         least = least_push b h.chain x v forced_is_free term_is_resolved absent levels h.least forced.first;
-        same = λ r.
-            ( λ u. let e = equal_parts r u in (fulfils_push b h.chain x v forced_is_free r e.0 (forced_equal r e.2), e.1)
-            , λ k.
-                let f = fulfils_before b h.chain x v forced_is_free r k.0 in
-                let e = equal_forced r (fulfils_here b h.chain x v forced_is_free r k.0) in
-                (h.same r).1 (f, (d.same r f).1 (k.1, e))
-            );
+        same = λ r. (
+          λ u. let e = equal_parts r u in (fulfils_push b h.chain x v forced_is_free r e.0 (forced_equal r e.2), e.1),
+          λ k.
+              let f = fulfils_before b h.chain x v forced_is_free r k.0 in
+              let e = equal_forced r (fulfils_here b h.chain x v forced_is_free r k.0) in
+              (h.same r).1 (f, (d.same r f).1 (k.1, e)),
+        );
         within = step_within;
       })
 

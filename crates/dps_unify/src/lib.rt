@@ -13,6 +13,8 @@ mod order;
 mod reaching;
 mod renaming;
 mod solution;
+#[cfg(test)]
+mod tests;
 mod unifier;
 
 pub use matching::matches;

@@ -24,11 +24,7 @@ pub(crate) fn solution(alloc: Global, bindings: &Bindings<'_>) -> Result<Subst, 
 }
 
 /// What the term becomes.
-fn solve<'a>(
-    alloc: Global,
-    bindings: &Bindings<'a>,
-    term: TermRef<'a>,
-) -> Result<Term, NoMemory>
+fn solve<'a>(alloc: Global, bindings: &Bindings<'a>, term: TermRef<'a>) -> Result<Term, NoMemory>
     requires { IsChain bindings.now }
     ensures { IfOk result (λ t. t ≡ substitute (solved bindings.now) (seen term.entry)) }
 {

@@ -10,10 +10,10 @@ returns-in-Some c =
     elim (cases_Bool c.equals.result) [
       | inl k ↦ rw k
           (matched_bound c.args.free.now c.args.solution.now c.args.variable (seen c.args.term) c.in-Some.bound.now (sym c.in-Some.ensures)
-            (sym c.whole.ensures ∙ c.equals.ensures.0 k))
+          (sym c.whole.ensures ∙ c.equals.ensures.0 k))
       | inr k ↦ rw k
           (refused_bound c.args.free.now c.args.solution.now c.args.variable (seen c.args.term) c.in-Some.bound.now (sym c.in-Some.ensures)
-            (λ e. let m : false ≡ true = sym k ∙ c.equals.ensures.1 (c.whole.ensures ∙ e) in cc))
+          (λ e. let m : false ≡ true = sym k ∙ c.equals.ensures.1 (c.whole.ensures ∙ e) in cc))
     ]
 
 pub returns : goal.returns

@@ -16,33 +16,33 @@ reaches_arguments-reaches_through-requires t c =
 
 pub reaches_arguments-returns-then-branch : goal.reaches_arguments-returns-then-branch
 reaches_arguments-returns-then-branch t c = record {
-  found =
-      ( λ _. stands_in_instance (solved c.args.bindings.now) _ (seen c.args.term) c.loop-index.index (seen c.argument.result) c.argument.ensures (c.in_ok-reaches_through.ensures.found.0 c.if-branch.true)
-      , λ _. refl
-      );
+  found = (
+    λ _. stands_in_instance (solved c.args.bindings.now) _ (seen c.args.term) c.loop-index.index (seen c.argument.result) c.argument.ensures (c.in_ok-reaches_through.ensures.found.0 c.if-branch.true),
+    λ _. refl,
+  );
   passed = c.in_ok-reaches_through.ensures.passed;
 }
 
 pub reaches_arguments-returns : goal.reaches_arguments-returns
 reaches_arguments-returns t c = record {
-  found =
-      ( λ e. cc
-      , λ k. absurd (avoids_all c.args.variable (solved c.args.bindings.now) (seen c.args.term) c.loop-index.index (λ m e. c.in_default.not-Var m (c.view.ensures ∙ e)) c.loop-index.invariant.avoided (omega (arith, c.arity-index-end.ensures.number)) k)
-      );
+  found = (
+    λ e. cc,
+    λ k. absurd (avoids_all c.args.variable (solved c.args.bindings.now) (seen c.args.term) c.loop-index.index (λ m e. c.in_default.not-Var m (c.view.ensures ∙ e)) c.loop-index.invariant.avoided (omega (arith, c.arity-index-end.ensures.number)) k),
+  );
   passed = c.loop-index.invariant.passed;
 }
 
 pub reaches_through-returns-then-contains-clause-found : goal.reaches_through-returns-then-contains-clause-found
-reaches_through-returns-then-contains-clause-found t c =
-    ( λ e. cc
-    , λ k. absurd (avoids_passed c.args.bindings.now c.args.variable c.in-Var.number (seen c.args.term) c.in-Var.ensures
-        (all_listed (λ n. ¬ StandsIn (var c.args.variable) (solved c.args.bindings.now n)) c.args.passed.now.keys c.in-Var.number c.requires.passed (sym c.if-contains.ensures)) k)
-    )
+reaches_through-returns-then-contains-clause-found t c = (
+  λ e. cc,
+  λ k. absurd (avoids_passed c.args.bindings.now c.args.variable c.in-Var.number (seen c.args.term) c.in-Var.ensures
+      (all_listed (λ n. ¬ StandsIn (var c.args.variable) (solved c.args.bindings.now n)) c.args.passed.now.keys c.in-Var.number c.requires.passed (sym c.if-contains.ensures)) k),
+)
 
 pub reaches_through-returns-clause-passed : goal.reaches_through-returns-clause-passed
 reaches_through-returns-clause-passed t c =
     rw c.in_ok-insert.ensures.keys
     (all_inserted (λ n. ¬ StandsIn (var c.args.variable) (solved c.args.bindings.now n)) c.reaches_arguments-2.new.passed.keys c.in-Var.number
-      c.in_ok-reaches_arguments.ensures.passed
-      (avoids_bound c.args.bindings.now c.args.variable c.in-Var.number (seen c.args.term) (seen c.resolve.result) c.requires.chain c.in-Var.ensures c.resolve.ensures
-        (λ k. let e : false ≡ true = sym c.if-branch.false ∙ c.in_ok-reaches_arguments.ensures.found.1 k in cc)))
+    c.in_ok-reaches_arguments.ensures.passed
+    (avoids_bound c.args.bindings.now c.args.variable c.in-Var.number (seen c.args.term) (seen c.resolve.result) c.requires.chain c.in-Var.ensures c.resolve.ensures
+    (λ k. let e : false ≡ true = sym c.if-branch.false ∙ c.in_ok-reaches_arguments.ensures.found.1 k in cc)))

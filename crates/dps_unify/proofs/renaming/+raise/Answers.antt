@@ -26,5 +26,5 @@ pub returns-after-loop-index : goal.returns-after-loop-index
 returns-after-loop-index t c =
     let made =
     arguments_all (λ n. leaf (var (n + c.args.by))) (seen c.args.term) c.in-App.sym c.loop-index.arguments.items c.loop-index.index c.in-App.ensures c.loop-index.invariant
-      (omega (arith, c.arity-index-end.ensures.number)) in
+    (omega (arith, c.arity-index-end.ensures.number)) in
     rw made at c.app.ensures

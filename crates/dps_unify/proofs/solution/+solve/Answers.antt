@@ -22,6 +22,6 @@ pub returns : goal.returns
 returns t c =
     let made =
     arguments_all (solved c.args.bindings.now) (seen c.resolve-root.result) c.in-App.sym c.loop-index.arguments.items c.loop-index.index c.in-App.ensures c.loop-index.invariant
-      (omega (arith, c.arity-index-end.ensures.number))
+    (omega (arith, c.arity-index-end.ensures.number))
     ∙ c.resolve-root.ensures.same (solved c.args.bindings.now) c.requires.fulfilled in
     rw made at c.app.ensures
