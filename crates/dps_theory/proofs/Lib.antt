@@ -6,4 +6,9 @@ pub mod FreshNames
 pub mod NamesUnseen
 pub mod Encryption
 pub mod Hiding
-pub mod Shapes
+pub mod Symbols
+pub mod Forms
+pub mod Overlapping
+pub mod Walking
+pub mod Agreeing
+pub mod Accepting

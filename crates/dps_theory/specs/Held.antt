@@ -2,7 +2,7 @@
 use Rattle.std.specs.Prelude.{List, map}
 use Rattle.dps_terms.specs.Signature.{Shape}
 use Rattle.dps_theory.specs.Theory.{Rule, Theory, IsAccepted, HasPlainRules}
-use Rattle.dps_theory.specs.declared.theory.SymbolShape.{SymbolShape}
+use Rattle.dps_theory.specs.declared.shapes.SymbolShape.{SymbolShape}
 
 abbrev pub shape_of : SymbolShape → Shape
 shape_of s = record { kind = s.kind; arity = s.arity }

@@ -5,3 +5,7 @@ pub mod Laws
 pub mod Examples
 pub mod Stored
 pub mod Held
+pub mod Overlaps
+pub mod Index
+pub mod Checking
+pub mod Judging

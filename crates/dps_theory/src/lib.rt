@@ -6,11 +6,17 @@
 //! names; each `Theory` is accepted, and its rules hold declared names and variables alone.
 #![tactic(auto)]
 
+mod check;
 pub mod examples;
+mod form;
+mod index;
 pub mod laws;
+mod overlap;
 mod rule;
+mod shapes;
 mod theory;
 
+pub use check::TheoryRefusal;
 pub use rule::Rule;
 pub use theory::Theory;
 

@@ -1,20 +1,14 @@
 //! Theories as values.
-ghost use Rattle.std.specs.Prelude.{◌≡◌, [], map, slice_get, IfOk};
+ghost use Rattle.std.specs.Prelude.{◌≡◌, [], slice_get, IfOk};
 ghost use Rattle.std.specs.Option.{option_map};
 ghost use Rattle.dps_terms.specs.Signature.{shapes};
 ghost use Rattle.dps_theory.specs.Theory.{IsAccepted, HasPlainRules};
-ghost use Rattle.dps_theory.specs.Held.{shape_of};
 
 use crate::Rule;
+use crate::shapes::{SymbolShape, shapes_of};
 use dps_terms::{NoMemory, Signature, Sym, SymKind};
 use std::alloc::Global;
 use std::marker::Model;
-
-#[derive(Clone, Copy, Debug, PartialEq, Eq)]
-struct SymbolShape {
-    kind: SymKind,
-    arity: u32,
-}
 
 /// An accepted theory whose rules hold declared names and variables alone: the kind and the arity of each symbol, and
 /// rewrite rules.
@@ -41,7 +35,7 @@ impl Model for Theory {
 
 impl Theory {
     /// The theory of the signature's symbols without a rule.
-    #[tactic(auto, using(crate::proofs::Shapes::unruled_is_kept))]
+    #[tactic(auto, using(crate::proofs::Symbols::unruled_is_kept))]
     pub fn without_rules(alloc: Global, signature: &Signature) -> Result<Theory, NoMemory>
         ensures { IfOk result (λ theory. theory ≡ record { shapes = shapes signature.now; rules = [] }) }
     {
@@ -80,19 +74,4 @@ impl Theory {
             None => None,
         }
     }
-}
-
-/// The kind and the arity of each symbol.
-#[tactic(auto, using(crate::proofs::Shapes::taken_next))]
-fn shapes_of(alloc: Global, signature: &Signature) -> Result<Vec<SymbolShape>, NoMemory>
-    ensures { IfOk result (λ v. map shape_of v.items ≡ shapes signature.now) }
-{
-    let mut found = Vec::new(alloc);
-    for number in 0..signature.symbol_count() {
-        let sym = Sym { number };
-        let kind = signature.kind(sym);
-        let arity = signature.arity(sym);
-        found.push(SymbolShape { kind, arity })?;
-    }
-    Ok(found)
 }
