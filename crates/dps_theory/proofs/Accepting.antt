@@ -13,7 +13,7 @@ use Rattle.dps_terms.specs.Signature.{Shape}
 use Rattle.dps_terms.proofs.Building.{closed_stays}
 use Rattle.dps_theory.specs.Theory.{Rule, Theory, HasRule, Agree, IsBounded, IsAccepted, HasDestructorRoot}
 use Rattle.dps_theory.specs.Overlaps.{IsOverlap}
-use Rattle.dps_theory.specs.Index.{has_root, listed}
+use Rattle.dps_theory.specs.Index.{has_root, listed, HasRootBelow}
 use Rattle.dps_theory.specs.Checking.{numbered_rule, HasForm, IsFault, AreAcceptedBefore, IsFirstFault, IsFirstOverlap, IsRefused}
 use Rattle.dps_theory.specs.Judging.{AreJudged, AgreeBefore, IsOverlapBefore}
 use Rattle.dps_theory.specs.declared.check.TheoryRefusal.{TheoryRefusal}
@@ -36,7 +36,7 @@ taken_le (x ∷ xs) (suc n) = omega (arith, taken_le xs n)
 taken_place : {X : Type 0} (xs : List X) (n k : ℕ) (x : X) → slice_get (take n xs) k ≡ Some x → k < n
 taken_place xs n k x e = omega (arith, slice_get_within (take n xs) k x e, length_taken xs n)
 
-contained : {X : Type 0} (xs : List X) (x : X) → Contains xs x → (k : ℕ) × (slice_get xs k ≡ Some x)
+pub contained : {X : Type 0} (xs : List X) (x : X) → Contains xs x → (k : ℕ) × (slice_get xs k ≡ Some x)
 contained [] x (k, below, at) = absurd (omega arith)
 contained (y ∷ ys) x (zero, below, at) = (0, ap (λ o. Some o) at)
 contained (y ∷ ys) x (suc k, below, at) = let h = contained ys x (k, omega arith, at) in (suc h.0, h.1)
@@ -217,3 +217,7 @@ overlap_before shapes rules place h q r earlier i within walk unifier at o = rec
   is = at;
   overlap = o;
 }
+
+pub below_from_view : (n : ℕ) (t : Tree) (f : Sym) → App f ≡ view_of t → HasRootBelow n t → f.number < n
+below_from_view n (leaf x) f e h = absurd h
+below_from_view n (app g ts) f e h = let d : g ≡ f = cc in omega (arith, h, ap (λ s. s.number) d)

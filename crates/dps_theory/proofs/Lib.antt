@@ -12,3 +12,5 @@ pub mod Overlapping
 pub mod Walking
 pub mod Agreeing
 pub mod Accepting
+pub mod Projecting
+pub mod TupleRules

@@ -1,5 +1,5 @@
 -- Where the rules of a destructor stand.
-use Rattle.std.specs.Prelude.{◌≡◌, ℕ, suc, Bool, false, nat_eq, if◌then◌else◌, List, [], ◌∷◌, slice_get, unwrap_or}
+use Rattle.std.specs.Prelude.{◌≡◌, ◌<◌, ℕ, suc, Bool, false, nat_eq, if◌then◌else◌, List, [], ◌∷◌, slice_get, unwrap_or}
 use Rattle.dps_terms.specs.Tree.{Tree, leaf, app}
 use Rattle.dps_theory.specs.Theory.{Rule}
 
@@ -23,3 +23,8 @@ listed lists g = unwrap_or (slice_get lists g) []
 -- each symbol's list is that of its rules' places
 abbrev pub IsIndexOf : List Rule → List (List ℕ) → Type 0
 IsIndexOf rules lists = (g : ℕ) → listed lists g ≡ places rules g
+
+-- a symbol with a number below this one stands at the root
+abbrev pub HasRootBelow : ℕ → Tree → Type 0
+HasRootBelow n (leaf x) = ⊥
+HasRootBelow n (app f ts) = f.number < n

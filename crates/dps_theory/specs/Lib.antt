@@ -9,3 +9,5 @@ pub mod Overlaps
 pub mod Index
 pub mod Checking
 pub mod Judging
+pub mod Projections
+pub mod Conditions

@@ -1,8 +1,9 @@
 //! Where the rules of each destructor stand.
-ghost use Rattle.std.specs.Prelude.{◌≡◌, ◌<◌, ◌++◌, ◌∷◌, [], length, slice_set, replicate, IfOk, OnOk};
-ghost use Rattle.dps_theory.specs.Index.{listed};
+ghost use Rattle.std.specs.Prelude.{◌≡◌, ◌<◌, ◌^◌, ◌++◌, ◌∷◌, [], length, slice_set, replicate, All, IfOk, OnOk};
+ghost use Rattle.dps_theory.specs.Index.{listed, IsIndexOf, HasRootBelow};
 
-use dps_terms::NoMemory;
+use crate::Rule;
+use dps_terms::{NoMemory, TermView};
 use std::alloc::Global;
 use std::marker::Model;
 
@@ -51,4 +52,24 @@ impl RootIndex {
         places.push(place)?;
         Ok(())
     }
+}
+
+/// The index of rules that each have a symbol at their left root, for so many symbols.
+pub(crate) fn index_of(
+    alloc: Global,
+    symbols: usize,
+    rules: &[Rule],
+) -> Result<RootIndex, NoMemory>
+    requires few { length rules.now < 2 ^ 25 }
+    requires rooted { All (λ r. HasRootBelow symbols r.left) rules.now }
+    ensures { IfOk result (IsIndexOf rules.now) }
+{
+    let mut index = RootIndex::empty(alloc, symbols)?;
+    for (place, rule) in rules.iter().enumerate() {
+        let TermView::App(root) = rule.left.whole().view() else {
+            unreachable!()
+        };
+        index.add(root.number, place as u32)?;
+    }
+    Ok(index)
 }

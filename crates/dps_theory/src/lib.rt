@@ -12,6 +12,7 @@ mod form;
 mod index;
 pub mod laws;
 mod overlap;
+mod projections;
 mod rule;
 mod shapes;
 mod theory;
