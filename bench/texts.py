@@ -1,4 +1,5 @@
-"""Writes texts of at most 1,048,576 bytes into the folder that is named: those for `lexing`, or those for `reading`."""
+"""Writes texts of at most 1,048,576 bytes into the folder that is named: those for `lexing`, for `reading`
+or for `unifying`."""
 import pathlib
 import sys
 
@@ -36,6 +37,10 @@ READING = {
     "brackets": filled("query trace_equiv(0", "|" + "(" * 150 + "0" + ")" * 150, ", 0)."),
 }
 
+# names of cases: trees whose last or first leaves are two names; last leaves that are a variable and a name; variables
+# against doubled ones; the same, and a pair that fails behind them
+UNIFYING = {"last": "last", "first": "first", "variable": "variable", "doubled": "doubled", "clash": "clash"}
+
 folder = pathlib.Path(sys.argv[2])
-for name, text in {"lexing": LEXING, "reading": READING}[sys.argv[1]].items():
+for name, text in {"lexing": LEXING, "reading": READING, "unifying": UNIFYING}[sys.argv[1]].items():
     (folder / f"{name}.txt").write_text(text)

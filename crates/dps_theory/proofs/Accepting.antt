@@ -171,12 +171,6 @@ module _ (shapes : List Shape) (rules : List Rule) where
           agrees_below zero r l e = cc
           agrees_below (suc n) r l e = o.agrees n r (omega arith) e
 
-  pub judged_none : AreJudged shapes rules 0
-  judged_none = record {
-    forms = λ k r l e. absurd (omega arith);
-    agreeing = λ j k r q l m e d. absurd (omega arith);
-  }
-
   pub judged_all : (place : ℕ) → AreJudged shapes rules place → length rules ≤ place → IsAccepted (record { shapes = shapes; rules = rules })
   judged_all place h l = subst (λ rs. IsAccepted (record { shapes = shapes; rules = rs })) (take_all place rules l) (judged_are_accepted place h)
 

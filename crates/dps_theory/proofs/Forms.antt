@@ -18,9 +18,6 @@ abbrev pub FirstArguments : (Tree → Type 0) → Tree → ℕ → Type 0
 FirstArguments P t i = (j : ℕ) → j < i → (u : Tree) → slice_get (arguments t) j ≡ Some u → P u
 
 module _ (P : Tree → Type 0) (t : Tree) where
-  pub first_none : FirstArguments P t 0
-  first_none j l u e = absurd (omega arith)
-
   pub first_more : (i : ℕ) (u : Tree) → FirstArguments P t i → slice_get (arguments t) i ≡ Some u → P u → FirstArguments P t (i + 1)
   first_more i u h e p j l v d =
       elim (cases_lt j i) [

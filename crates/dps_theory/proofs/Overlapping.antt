@@ -31,10 +31,6 @@ pub least_le : (ns : List ℕ) (m : ℕ) → All (λ n. n < m) ns → least_abov
 least_le [] m h = omega arith
 least_le (n ∷ ns) m h = omega (arith, h 0 0 (omega arith), least_le ns m (λ k d l. h (suc k) d (omega arith)))
 
-pub least_next : (ns : List ℕ) (i d least : ℕ) → i < length ns → max least (least_above (drop i ns)) ≡ least_above ns → max (max least (get_or ns i d + 1)) (least_above (drop (i + 1) ns)) ≡ least_above ns
-least_next ns i d least l h =
-    omega (arith, h, ap least_above (drop-cons ns i d l), ap (λ k. least_above (drop k ns)) (add-one i))
-
 -- levels by place
 levels_length : (i : ℕ) (ns : List ℕ) → length (levels_from i ns) ≡ length ns
 levels_length i [] = refl
@@ -50,14 +46,6 @@ levels_of_two ns ms one two e d =
     d ∙ (λ i. e i ++ levels_from (length (e i)) ms)
     ∙ ap (λ k. levels_from 0 ns ++ levels_from k ms) (levels_length 0 ns ∙ omega arith)
     ∙ sym (levels_append 0 ns ms)
-
-pub level_next : (ns : List ℕ) (i d : ℕ) (done after all : List (ℕ × ℕ)) → i < length ns → done ++ levels_from (length done) (drop i ns) ≡ all → after ≡ done ++ (get_or ns i d, min (length done) (2 ^ 32 - 1)) ∷ [] → after ++ levels_from (length after) (drop (i + 1) ns) ≡ all
-level_next ns i d done after all l h a =
-    let len : length after ≡ suc (length done) = ap length a ∙ (length-append done ((get_or ns i d, min (length done) (2 ^ 32 - 1)) ∷ []) ∙ omega arith) in
-    (λ j. a j ++ levels_from (len j) (drop (add-one i j) ns))
-    ∙ append_assoc done ((get_or ns i d, min (length done) (2 ^ 32 - 1)) ∷ []) (levels_from (suc (length done)) (drop (suc i) ns))
-    ∙ ap (λ ms. done ++ levels_from (length done) ms) (sym (drop-cons ns i d l))
-    ∙ h
 
 -- one substitution below a number and another one from it on
 module _ (by : ℕ) (y z : ℕ → Tree) where
@@ -160,3 +148,11 @@ module _ (r q : Rule) (by : ℕ) (left : Tree) (is_room : by ≡ room r) (is_lef
 
     pub overlap_different : (substitute (image u) r.right ≡ substitute (image u) right → ⊥) → IsOverlap r q u
     overlap_different d = overlap_found r q u general_apart (λ e. d (e ∙ sym (ap (substitute (image u)) right_apart)))
+
+-- lists of small variables on both sides
+pub small_on_both : (r : Rule) → All (λ n. n < 2 ^ 32) (variables r.left) → All (λ n. n < 2 ^ 32) (variables r.right) → HasSmallVariables r
+small_on_both r h k n o =
+    elim o [
+      | inl a ↦ let c = (variables_are_those r.left n).1 a in subst (λ m. m < 2 ^ 32) c.2 (h c.0 n c.1)
+      | inr a ↦ let c = (variables_are_those r.right n).1 a in subst (λ m. m < 2 ^ 32) c.2 (k c.0 n c.1)
+    ]

@@ -212,14 +212,6 @@ index_next rules r lists after f place h root within is a g =
           ∙ sym (places_push rules r 0 g ∙ rw o (append-nil (places rules g)))
     ]
 
-listed_none : (n g : ℕ) → listed (replicate n []) g ≡ []
-listed_none zero g = refl
-listed_none (suc n) zero = refl
-listed_none (suc n) (suc g) = listed_none n g
-
-pub index_empty : (n : ℕ) (lists : List (List ℕ)) → lists ≡ replicate n [] → IsIndexOf [] lists
-index_empty n lists e g = ap (λ l. listed l g) e ∙ listed_none n g
-
 replicate_more : {X : Type 0} (x : X) (k : ℕ) → replicate k x ++ x ∷ [] ≡ replicate (suc k) x
 replicate_more x zero = refl
 replicate_more x (suc k) = ap (λ l. x ∷ l) (replicate_more x k)

@@ -15,6 +15,8 @@ mod overlap;
 mod projections;
 mod rule;
 mod shapes;
+#[cfg(test)]
+mod tests;
 mod theory;
 
 pub use check::TheoryRefusal;

@@ -40,7 +40,7 @@ fn push_projections(
 }
 
 /// The text of the symbol of the tuples of a length.
-fn tuple_text(length: u32) -> &'static str
+pub(crate) fn tuple_text(length: u32) -> &'static str
     requires low { 2 ≤ length }
     requires high { length ≤ 8 }
     ensures { result.now ≡ tuple_name length }
@@ -100,7 +100,7 @@ fn projection(
 }
 
 /// The text of a projection.
-fn projection_text(alloc: Global, place: u32, length: u32) -> Result<String, NoMemory>
+pub(crate) fn projection_text(alloc: Global, place: u32, length: u32) -> Result<String, NoMemory>
     requires low { 1 ≤ place }
     requires high { place ≤ length }
     requires few { length ≤ 8 }

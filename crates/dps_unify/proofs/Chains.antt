@@ -302,15 +302,3 @@ module _ (b : List (ℕ × Tree)) (h : IsChain b) (x : ℕ) (v : Tree) (free : b
 pub record Follows (bindings : List (ℕ × Tree)) (t u : Tree) : Type 0 where
   pub same : (r : ℕ → Tree) → Fulfils r bindings → substitute r u ≡ substitute r t
   pub within : (n : ℕ) → StandsIn (var n) u → StandsIn (var n) t ⊎ IsHeld bindings n
-
-pub follows_itself : (b : List (ℕ × Tree)) (t : Tree) → Follows b t t
-follows_itself b t = record { same = λ r f. refl; within = λ n k. inl k }
-
-pub follows_on : (b : List (ℕ × Tree)) (t u w : Tree) (n : ℕ) → Follows b t u → u ≡ leaf (var n) → bound b n ≡ Some w → Follows b t w
-follows_on b t u w n h e k = record {
-  same = λ r f. sym (f n w k) ∙ ap (substitute r) (sym e) ∙ h.same r f;
-  within = λ m o. inr (n, w, k, inr o);
-}
-
-pub follows_end : (b : List (ℕ × Tree)) (t u : Tree) → Follows b t u → IsResolved b u → Resolves b t u
-follows_end b t u h e = record { resolved = e; same = h.same; within = h.within }

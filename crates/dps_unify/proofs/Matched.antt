@@ -104,15 +104,6 @@ pub record SoFar (free : List ℕ) (s : List (ℕ × Tree)) (p t : Tree) (q : Li
   pub matches : (r : ℕ → Tree) → Keeps free r → Agrees r q → (j : ℕ) → j < i → (v w : Tree) → slice_get (arguments p) j ≡ Some v → slice_get (arguments t) j ≡ Some w → substitute r v ≡ w
   pub forced : (r : ℕ → Tree) → Keeps free r → Agrees r s → substitute r p ≡ t → Agrees r q
 
-pub so_far_none : (free : List ℕ) (s : List (ℕ × Tree)) (p t : Tree) → SoFar free s p t s 0
-so_far_none free s p t = record {
-  keeps = λ n v e. e;
-  within = λ n v e. inl e;
-  covers = λ n f j l v e k. absurd (omega arith);
-  matches = λ r k g j l v w e d. absurd (omega arith);
-  forced = λ r k g e. g;
-}
-
 -- trees with alike roots over equal arguments
 same_all : (ts us : Trees) → length (list_of ts) ≡ length (list_of us) → ((j : ℕ) (v w : Tree) → slice_get (list_of ts) j ≡ Some v → slice_get (list_of us) j ≡ Some w → v ≡ w) → ts ≡ us
 same_all none none e h = refl
@@ -206,6 +197,3 @@ match_found free p t s e empty h =
         λ k. let b = h.covers n k.0 k.1 in is_some_of (bound s n) b.0 b.1,
       );
     }
-
-pub no_match : (free : List ℕ) (p t : Tree) (e : List (ℕ × Tree)) → e ≡ [] → Refused free e p t → (r : ℕ → Tree) → Keeps free r → substitute r p ≡ t → ⊥
-no_match free p t e empty h r k = h r k (λ n v b. let c : None ≡ Some v = ap (λ l. bound l n) (sym empty) ∙ b in cc)

@@ -20,20 +20,3 @@ comes_trans None None None x y z h g = omega arith
 
 pub precedes_trans : (levels : List (ℕ × ℕ)) (x y z : ℕ) → Precedes levels x y → Precedes levels y z → Precedes levels x z
 precedes_trans levels x y z = comes_trans (level_of levels x) (level_of levels y) (level_of levels z) x y z
-
--- of two variables one comes first
-comes_first : (a b : Option ℕ) (x y : ℕ) → (x ≡ y → ⊥) → (ComesBefore a b x y → ⊥) → ComesBefore b a y x
-comes_first (Some i) (Some j) x y ne h =
-    elim (cases_lt j i) [
-      | inl g ↦ inl g
-      | inr g ↦ elim (cases_lt i j) [
-        | inl k ↦ absurd (h (inl k))
-        | inr k ↦ elim (cases_lt x y) [ inl l ↦ absurd (h (inr (omega arith, l))) | inr l ↦ inr (omega arith, omega arith) ]
-      ]
-    ]
-comes_first (Some i) None x y ne h = absurd (h tt)
-comes_first None (Some j) x y ne h = tt
-comes_first None None x y ne h = elim (cases_lt x y) [ inl l ↦ absurd (h l) | inr l ↦ omega arith ]
-
-pub precedes_else : (levels : List (ℕ × ℕ)) (x y : ℕ) → (x ≡ y → ⊥) → (Precedes levels x y → ⊥) → Precedes levels y x
-precedes_else levels x y = comes_first (level_of levels x) (level_of levels y) x y

@@ -115,13 +115,6 @@ pub weight_arguments : (z : ℕ → Tree) (t : Tree) (ys : List Tree) → weight
 weight_arguments z (leaf x) ys = omega (arith, has_nodes (substitute z (leaf x)))
 weight_arguments z (app f ts) ys = omega (arith, weight_all z ts ys)
 
--- pairs taken apart
-pub remains_start : (b : List (ℕ × Tree)) (ps : List (Tree × Tree)) → Remains b ps ps
-remains_start b ps = record { same = λ r f. (λ h. h, λ h. h); within = λ n k. inl k }
-
-pub remains_none : (b : List (ℕ × Tree)) (ps qs : List (Tree × Tree)) → Remains b ps qs → qs ≡ [] → AreUnified b ps
-remains_none b ps qs h e r f = (h.same r f).1 (subst (Unifies r) (sym e) (All-nil (λ p. substitute r p.0 ≡ substitute r p.1)))
-
 module _ (b : List (ℕ × Tree)) (before now rest : List (Tree × Tree)) (t u a c : Tree) (h : Remains b before now) (is : now ≡ rest ++ (t, u) ∷ []) (left : Resolves b t a) (right : Resolves b u c) where
   -- the pair and those before it
   apart_now : (r : ℕ → Tree) → Fulfils r b → Unifies r now ↔ (Unifies r rest × (substitute r a ≡ substitute r c))

@@ -34,19 +34,6 @@ stands_in_instance z x (app f ts) i u e k = nested k (below (keeps_among (variab
 abbrev pub AvoidsSome : ℕ → (ℕ → Tree) → Tree → ℕ → Type 0
 AvoidsSome x z t i = (j : ℕ) → j < i → (u : Tree) → slice_get (arguments t) j ≡ Some u → ¬ StandsIn (var x) (substitute z u)
 
-pub avoids_none : (x : ℕ) (z : ℕ → Tree) (t : Tree) → AvoidsSome x z t 0
-avoids_none x z t j l u e k = omega arith
-
-pub avoids_more : (x : ℕ) (z : ℕ → Tree) (t : Tree) (i : ℕ) (u : Tree) → AvoidsSome x z t i → slice_get (arguments t) i ≡ Some u → ¬ StandsIn (var x) (substitute z u) → AvoidsSome x z t (i + 1)
-avoids_more x z t i u h e avoided j l v d k =
-    elim (cases_lt j i) [
-      | inl o ↦ h j o v d k
-      | inr o ↦
-          let q : j ≡ i = omega arith in
-          let m : Some u ≡ Some v = sym e ∙ ap (slice_get (arguments t)) (sym q) ∙ d in
-          let same : v ≡ u = cc in avoided (subst (λ w. StandsIn (var x) (substitute z w)) same k)
-    ]
-
 -- a variable below the root stands in an argument
 among_argument : (v : Tree) (ts : Trees) → IsAmong v ts → (i : ℕ) × (u : Tree) × (slice_get (list_of ts) i ≡ Some u) × IsSubterm v u
 among_argument v none k = elim k [ ]

@@ -8,21 +8,8 @@ use Rattle.dps_terms.specs.declared.TermView.TheVariants.{App, Var}
 use Rattle.dps_unify.specs.Renaming.{raised, HasRoom}
 use Rattle.dps_unify.proofs.Trees.{stands_in_argument, var_from_view}
 
-pub raised_var : (by : ℕ) (t : Tree) (n : ℕ) → Var n ≡ view_of t → leaf (var (n + by)) ≡ raised by t
-raised_var by t n e = ap (raised by) (sym (var_from_view t n (sym e)))
-
 pub room_here : (by : ℕ) (t : Tree) (n : ℕ) → Var n ≡ view_of t → HasRoom t by → n + by < 2 ^ 64
 room_here by t n e h = h n (subst (λ u. StandsIn (var n) u) (sym (var_from_view t n (sym e))) itself)
 
 pub room_below : (by : ℕ) (t : Tree) (i : ℕ) (u : Tree) → slice_get (arguments t) i ≡ Some u → HasRoom t by → HasRoom u by
 room_below by t i u e h n o = h n (stands_in_argument (var n) t i u e o)
-
--- what is neither a variable nor has arguments stays
-pub raised_leaf : (by : ℕ) (t : Tree) → ((f : Sym) → view_of t ≡ App f → ⊥) → ((n : ℕ) → view_of t ≡ Var n → ⊥) → t ≡ raised by t
-raised_leaf by (app g ts) na nv = absurd (na g refl)
-raised_leaf by (leaf (public m)) na nv = refl
-raised_leaf by (leaf (private m)) na nv = refl
-raised_leaf by (leaf (var m)) na nv = absurd (nv m refl)
-raised_leaf by (leaf (ax m)) na nv = refl
-raised_leaf by (leaf (entry m)) na nv = refl
-raised_leaf by (leaf (rigid m)) na nv = refl

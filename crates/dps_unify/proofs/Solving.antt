@@ -42,19 +42,6 @@ pub arguments_all : (z : ℕ → Tree) (t : Tree) (f : Sym) (done : List Tree) (
 arguments_all z t f done i e d l =
     ap (λ us. app f (trees us)) (d ∙ ap (map (substitute z)) (take_all i (arguments t) l)) ∙ sym (instance_of_app z t f e)
 
--- a leaf that is no bound variable stays
-at_leaf : (b : List (ℕ × Tree)) → IsChain b → (x : Leaf) → IsResolved b (leaf x) → leaf x ≡ substitute (solved b) (leaf x)
-at_leaf b h (public n) e = refl
-at_leaf b h (private n) e = refl
-at_leaf b h (var n) e = sym (h.stays n (e n refl))
-at_leaf b h (ax n) e = refl
-at_leaf b h (entry n) e = refl
-at_leaf b h (rigid n) e = refl
-
-pub solved_leaf : (b : List (ℕ × Tree)) (t u : Tree) → IsChain b → Resolves b t u → ((f : Sym) → view_of u ≡ App f → ⊥) → u ≡ substitute (solved b) t
-solved_leaf b t (leaf x) h r other = at_leaf b h x r.resolved ∙ r.same (solved b) h.fulfilled
-solved_leaf b t (app f ts) h r other = absurd (other f refl)
-
 -- one more binding
 pub solution_next : (F : Tree → Tree) (b : List (ℕ × Tree)) (i x : ℕ) (t y : Tree) (done after : List (ℕ × Tree)) → slice_get b i ≡ Some (x, t) → done ≡ map (with_second F) (take i b) → y ≡ F t → after ≡ done ++ (x, y) ∷ [] → after ≡ map (with_second F) (take (i + 1) b)
 solution_next F b i x t y done after e d h a =
