@@ -1,17 +1,15 @@
 -- From rules that were judged one by one to an accepted theory, or to the first fault.
-use Rattle.std.proofs.Common.{◌≡◌, ℕ, zero, suc, ◌+◌, ◌-◌, ◌<◌, ◌≤◌, List, [], ◌∷◌, ◌++◌, length, drop, take, get_or, Bool, true, false, nat_eq, refl, sym, ◌∙◌, ap, arith, ◌⊎◌, inl, inr, subst, Option, Some, None, add-one, drop-cons, map, slice_set}
+use Rattle.std.proofs.Common.{◌≡◌, ℕ, zero, suc, ◌+◌, ◌-◌, ◌<◌, ◌≤◌, List, [], ◌∷◌, ◌++◌, length, drop, take, get_or, true, refl, sym, ◌∙◌, ap, arith, inl, inr, subst, Some, add-one, drop-cons, map, slice_set}
 use Rattle.std.specs.Prelude.{slice_get, Contains, All}
 use Rattle.std.proofs.lemmas.Bool.{cases_lt, eq-eqb}
 use Rattle.std.proofs.lemmas.List.{take_all}
 use Rattle.std.proofs.lemmas.Option.{none-some, slice_get_within}
 use Rattle.dps_terms.specs.declared.Sym.{Sym}
 use Rattle.dps_terms.specs.declared.TermView.TheVariants.{App}
-use Rattle.dps_terms.specs.Tree.{Leaf, Tree, Trees, leaf, app, StandsIn, var}
-use Rattle.dps_terms.specs.Replace.{substitute}
+use Rattle.dps_terms.specs.Tree.{Tree, leaf, app}
 use Rattle.dps_terms.specs.Views.{view_of}
 use Rattle.dps_terms.specs.Signature.{Shape}
-use Rattle.dps_terms.proofs.Building.{closed_stays}
-use Rattle.dps_theory.specs.Theory.{Rule, Theory, HasRule, Agree, IsBounded, IsAccepted, HasDestructorRoot}
+use Rattle.dps_theory.specs.Theory.{Rule, Agree, IsAccepted, HasDestructorRoot}
 use Rattle.dps_theory.specs.Overlaps.{IsOverlap}
 use Rattle.dps_theory.specs.Index.{has_root, listed, HasRootBelow}
 use Rattle.dps_theory.specs.Checking.{numbered_rule, HasForm, IsFault, AreAcceptedBefore, IsFirstFault, IsFirstOverlap, IsRefused}
@@ -112,7 +110,7 @@ module _ (shapes : List Shape) (rules : List Rule) where
         before_on agree =
             subst (λ k. Walk (take place rules) q (drop k earlier)) (sym (add-one i))
             (walk_on shapes (take place rules) q forms_taken (get_or earlier i 0) (drop (suc i) earlier) here
-              (λ r e. agree r (sym (slice_get-take rules place (get_or earlier i 0) before_within.0) ∙ e)))
+            (λ r e. agree r (sym (slice_get-take rules place (get_or earlier i 0) before_within.0) ∙ e)))
 
       pub before_end : Walk (take place rules) q (drop i earlier) → length earlier ≤ i → AgreeBefore rules place q
       before_end walk all k r l e =

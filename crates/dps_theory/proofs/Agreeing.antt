@@ -1,7 +1,6 @@
 -- A bounded rule agrees with itself.
-use Rattle.std.proofs.Common.{◌≡◌, ℕ, refl, sym, ◌∙◌, ap, inl, inr}
-use Rattle.dps_terms.specs.declared.Sym.{Sym}
-use Rattle.dps_terms.specs.Tree.{Leaf, var, Tree, Trees, leaf, app, none, more, IsSubterm, IsAmong, IsStrictSubterm, itself, below, in_first, in_rest, strictly}
+use Rattle.std.proofs.Common.{◌≡◌, ℕ, sym, ◌∙◌, inl, inr}
+use Rattle.dps_terms.specs.Tree.{Tree, Trees, IsSubterm, IsAmong, itself, below, in_first, in_rest}
 use Rattle.dps_terms.specs.Replace.{substitute, substitute_all}
 use Rattle.dps_terms.proofs.Building.{closed_stays}
 use Rattle.dps_terms.proofs.Subterms.{strict_is_subterm}

@@ -66,9 +66,9 @@ module _ (known : List Shape) where
 
   shape_here : (kind : SymKind) (f g : Sym) (ts : Trees) (n : ℕ) → f ≡ g → n ≡ length (list_of ts) → HasShape known kind f n ↔ HasShape known kind g (count ts)
   shape_here kind f g ts n e d =
-      let m : n ≡ count ts = d ∙ sym (count-list_of ts) in
-      ( λ h. subst (λ k. HasShape known kind g k) m (subst (λ k. HasShape known kind k n) e h)
-      , λ h. subst (λ k. HasShape known kind k n) (sym e) (subst (λ k. HasShape known kind g k) (sym m) h)
+      let m : n ≡ count ts = d ∙ sym (count-list_of ts) in (
+        λ h. subst (λ k. HasShape known kind g k) m (subst (λ k. HasShape known kind k n) e h),
+        λ h. subst (λ k. HasShape known kind k n) (sym e) (subst (λ k. HasShape known kind g k) (sym m) h),
       )
 
   pub constructor_app : (t : Tree) (f : Sym) (n : ℕ) → App f ≡ view_of t → n ≡ length (arguments t) → (HasShape known Constructor f n × HasConstructorArguments known t) ↔ IsConstructorTerm known t

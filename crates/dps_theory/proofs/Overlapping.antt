@@ -1,14 +1,13 @@
 -- Rules renamed apart: agreement and overlaps.
-use Rattle.std.proofs.Common.{◌≡◌, ℕ, zero, suc, ◌+◌, ◌-◌, ◌<◌, ◌≤◌, ◌^◌, List, [], ◌∷◌, ◌++◌, length, drop, get_or, take, Bool, true, false, cond, max, min, refl, sym, ◌∙◌, ap, arith, ◌⊎◌, inl, inr, subst, add-one, drop-cons, append_assoc, length-append}
+use Rattle.std.proofs.Common.{◌≡◌, ℕ, zero, suc, ◌+◌, ◌-◌, ◌<◌, ◌≤◌, ◌^◌, List, [], ◌∷◌, ◌++◌, length, get_or, cond, min, refl, sym, ◌∙◌, ap, arith, inl, inr, subst}
 use Rattle.std.specs.Prelude.{◌≢◌, Contains, nat_lt}
 use Rattle.std.specs.List.{All}
 use Rattle.std.proofs.lemmas.Bool.{cases_Bool, ltb-true, ltb-false}
 use Rattle.std.proofs.lemmas.List.Elements.{All-nil, All-cons, All-head, Contains-get_or}
-use Rattle.dps_terms.specs.Tree.{Leaf, var, Tree, leaf, StandsIn, IsSubterm, IsStrictSubterm}
+use Rattle.dps_terms.specs.Tree.{var, Tree, leaf, StandsIn}
 use Rattle.dps_terms.specs.Replace.{substitute}
 use Rattle.dps_terms.specs.Variables.{variables}
 use Rattle.dps_terms.specs.Bindings.{image}
-use Rattle.dps_terms.specs.Kinds.{IsClosed}
 use Rattle.dps_terms.proofs.Building.{closed_has_none}
 use Rattle.dps_terms.proofs.Listing.{variables_are_those}
 use Rattle.dps_terms.proofs.Subterms.{nested, strict_is_subterm}

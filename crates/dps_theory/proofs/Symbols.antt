@@ -1,7 +1,7 @@
 -- The kinds and arities of a signature's symbols, taken one by one; a theory without a rule.
-use Rattle.std.specs.Prelude.{◌≡◌, ℕ, zero, suc, ◌+◌, List, [], ◌∷◌, ◌++◌, map, take, length, slice_get, Some, ◌<◌}
+use Rattle.std.specs.Prelude.{◌≡◌, ℕ, zero, suc, ◌+◌, List, [], ◌∷◌, ◌++◌, map, take, slice_get, Some}
 use Rattle.std.specs.Option.{option_map}
-use Rattle.std.proofs.Common.{ap, arith, refl, ◌∙◌, add-one}
+use Rattle.std.proofs.Common.{ap, arith, refl, add-one}
 use Rattle.std.proofs.lemmas.List.{map-append}
 use Rattle.std.proofs.lemmas.Option.{none-some}
 use Rattle.dps_terms.specs.Signature.{Shape, Symbol, shape_of}

@@ -1,6 +1,6 @@
 -- The rules of projections make an accepted theory, with rules that are accepted by themselves too.
 use Rattle.std.proofs.Common.{◌≡◌, ℕ, zero, suc, ◌+◌, ◌<◌, ◌≤◌, ◌^◌, length-append, List, [], ◌∷◌, ◌++◌, length, map, get_or, Option, Some, None, refl, sym, ◌∙◌, ap, arith, ◌⊎◌, inl, inr, subst, unwrap_or, true, nat_eq}
-use Rattle.std.specs.Prelude.{slice_get, Contains, All, ◌≢◌, position}
+use Rattle.std.specs.Prelude.{slice_get, Contains, All, ◌≢◌}
 use Rattle.std.specs.List.{range_with_len, flat_map}
 use Rattle.std.specs.Str.{bytes_eq}
 use Rattle.std.proofs.lemmas.List.{length-map}
@@ -10,16 +10,16 @@ use Rattle.std.proofs.lemmas.Option.{none-some, slice_get_within}
 use Rattle.std.proofs.lemmas.Bool.{cases_Bool, cases_lt, eqb-true}
 use Rattle.dps_terms.specs.declared.Sym.{Sym}
 use Rattle.dps_terms.specs.declared.SymKind.TheVariants.{Constructor, Destructor}
-use Rattle.dps_terms.specs.Tree.{Leaf, var, Tree, Trees, leaf, app, none, more, trees, count, IsSubterm, IsAmong, itself, below, in_first, in_rest, strictly}
+use Rattle.dps_terms.specs.Tree.{Leaf, var, Tree, leaf, app, trees, count, IsSubterm, IsAmong, itself, below, in_first, in_rest, strictly}
 use Rattle.dps_terms.specs.Replace.{substitute}
 use Rattle.dps_terms.specs.Signature.{Symbol, Signature, Shape, HasShape, HasArity, shapes}
 use Rattle.dps_terms.specs.Names.{tuple_name, symbol_named}
-use Rattle.dps_terms.specs.Kinds.{IsBuiltOf, AreBuiltOf, AnyLeaf, AnySymbol, IsLeafOver, IsOver}
+use Rattle.dps_terms.specs.Kinds.{AreBuiltOf, AnyLeaf, AnySymbol, IsLeafOver}
 use Rattle.dps_terms.proofs.Arguments.{count-trees}
-use Rattle.dps_theory.specs.Theory.{Rule, Theory, HasRule, Agree, IsAccepted, IsRuleLeaf, HasDestructorRoot, HasPlainRules}
+use Rattle.dps_theory.specs.Theory.{Rule, Theory, Agree, IsAccepted, IsRuleLeaf, HasDestructorRoot}
 use Rattle.dps_theory.specs.Checking.{HasForm}
 use Rattle.dps_theory.specs.Judging.{root_of}
-use Rattle.dps_theory.specs.Projections.{projection_name, symbol_with, tuple_of, projection_rule, projections_of, rules_for, projections, HasProjections}
+use Rattle.dps_theory.specs.Projections.{projection_name, symbol_with, projection_rule, projections_of, rules_for, projections, HasProjections}
 use Rattle.dps_theory.specs.Conditions.{IsRuleOver, IsPlainRule, HasNoProjection, AreCheckable}
 use Rattle.dps_theory.specs.Held.{IsKept}
 use Rattle.dps_theory.specs.Index.{HasRootBelow}
@@ -138,16 +138,17 @@ module _ (signature : Signature) (there : HasProjections signature) where
     })
 
     pub projection_over : IsRuleOver signature p
-    projection_over = subst (IsRuleOver signature) (sym d.is)
-      ( ( (Destructor, root_shape)
-        , (((Constructor, tuple_shape), variables_built (IsLeafOver signature) (HasArity (shapes signature)) (λ k. tt) (range_with_len 1 d.n)), tt)
-        )
-      , tt
-      )
+    projection_over = subst (IsRuleOver signature) (sym d.is) (
+      (
+        (Destructor, root_shape),
+        (((Constructor, tuple_shape), variables_built (IsLeafOver signature) (HasArity (shapes signature)) (λ k. tt) (range_with_len 1 d.n)), tt),
+      ),
+      tt,
+    )
 
     pub projection_plain : IsPlainRule p
     projection_plain = subst IsPlainRule (sym d.is)
-      ((tt, ((tt, variables_built IsRuleLeaf AnySymbol (λ k. tt) (range_with_len 1 d.n)), tt)), tt)
+        ((tt, ((tt, variables_built IsRuleLeaf AnySymbol (λ k. tt) (range_with_len 1 d.n)), tt)), tt)
 
   -- projections with one root are one rule
   same_projection : (p q : Rule) (d : IsProjection signature p) (e : IsProjection signature q) → symbol_with signature (projection_name d.i d.n) ≡ symbol_with signature (projection_name e.i e.n) → p ≡ q
@@ -251,12 +252,12 @@ upper a (suc k) = a + upper (a + 1) k
 few_from : (signature : Signature) (a k : ℕ) → length (flat_map (projections_of signature) (range_with_len a k)) ≤ upper a k
 few_from signature a zero = omega arith
 few_from signature a (suc k) =
-    omega
-      ( arith
-      , length-append (projections_of signature a) (flat_map (projections_of signature) (range_with_len (a + 1) k))
-      , length_of signature a (symbol_named signature (tuple_name a))
-      , few_from signature (a + 1) k
-      )
+    omega (
+      arith,
+      length-append (projections_of signature a) (flat_map (projections_of signature) (range_with_len (a + 1) k)),
+      length_of signature a (symbol_named signature (tuple_name a)),
+      few_from signature (a + 1) k,
+    )
 
 pub few_projections : (signature : Signature) → length (projections signature) ≤ 35
 few_projections signature = few_from signature 2 7

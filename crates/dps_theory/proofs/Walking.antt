@@ -1,11 +1,10 @@
 -- The places of the rules with one root, walked through in order.
-use Rattle.std.proofs.Common.{◌≡◌, ℕ, zero, suc, ◌+◌, ◌<◌, ◌≤◌, List, [], ◌∷◌, ◌++◌, length, drop, take, Bool, true, false, nat_eq, cond, refl, sym, ◌∙◌, ap, arith, ◌⊎◌, inl, inr, subst, Option, Some, None, if◌then◌else◌, slice_set, length-drop, append-nil, ◌-◌, add-one}
-use Rattle.std.specs.Prelude.{slice_get, unwrap_or, replicate}
-use Rattle.std.proofs.lemmas.Bool.{cases_Bool, cases_lt, eqb-true, eq-eqb}
-use Rattle.std.proofs.lemmas.Option.{none-some, slice_get_within}
+use Rattle.std.proofs.Common.{◌≡◌, ℕ, zero, suc, ◌+◌, ◌<◌, ◌≤◌, List, [], ◌∷◌, ◌++◌, length, drop, take, true, false, nat_eq, refl, sym, ◌∙◌, ap, arith, inl, inr, subst, Some, if◌then◌else◌, slice_set, length-drop, append-nil, ◌-◌, add-one}
+use Rattle.std.specs.Prelude.{slice_get, replicate}
+use Rattle.std.proofs.lemmas.Bool.{cases_Bool, cases_lt, eqb-true}
+use Rattle.std.proofs.lemmas.Option.{none-some}
 use Rattle.dps_terms.specs.declared.Sym.{Sym}
-use Rattle.dps_terms.specs.declared.SymKind.TheVariants.{Destructor}
-use Rattle.dps_terms.specs.Tree.{Leaf, Tree, Trees, leaf, app}
+use Rattle.dps_terms.specs.Tree.{Tree, Trees, leaf, app}
 use Rattle.dps_terms.specs.Replace.{substitute}
 use Rattle.dps_terms.specs.Signature.{Shape}
 use Rattle.dps_theory.specs.Theory.{Rule, Agree, HasDestructorRoot}

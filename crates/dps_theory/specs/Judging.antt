@@ -1,5 +1,5 @@
 -- How far the rules of a list were judged.
-use Rattle.std.specs.Prelude.{◌≡◌, ◌<◌, ℕ, Bool, true, List, slice_get, Some, Option, None}
+use Rattle.std.specs.Prelude.{◌≡◌, ◌<◌, ℕ, List, slice_get, Some, Option, None}
 use Rattle.dps_terms.specs.declared.Sym.{Sym}
 use Rattle.dps_terms.specs.Signature.{Shape}
 use Rattle.dps_terms.specs.Tree.{Tree, leaf, app}

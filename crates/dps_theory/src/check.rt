@@ -22,13 +22,21 @@ use std::alloc::Global;
 #[derive(Drop)]
 pub enum TheoryRefusal {
     /// No destructor stands at the left root.
-    RootNotDestructor { rule: u32 },
+    RootNotDestructor {
+        rule: u32,
+    },
     /// A destructor stands below the left root.
-    ArgumentNotConstructor { rule: u32 },
+    ArgumentNotConstructor {
+        rule: u32,
+    },
     /// A destructor stands on the right side.
-    RightNotConstructor { rule: u32 },
+    RightNotConstructor {
+        rule: u32,
+    },
     /// The right side is neither a strict subterm of the left side nor ground.
-    NotSubterm { rule: u32 },
+    NotSubterm {
+        rule: u32,
+    },
     /// The left sides of two rules have a common instance whose right sides differ. In the unifier the first rule's
     /// variables have their numbers, and those of the second are raised by the least number above all of the first's.
     Overlap {

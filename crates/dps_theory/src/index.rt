@@ -55,11 +55,7 @@ impl RootIndex {
 }
 
 /// The index of rules that each have a symbol at their left root, for so many symbols.
-pub(crate) fn index_of(
-    alloc: Global,
-    symbols: usize,
-    rules: &[Rule],
-) -> Result<RootIndex, NoMemory>
+pub(crate) fn index_of(alloc: Global, symbols: usize, rules: &[Rule]) -> Result<RootIndex, NoMemory>
     requires few { length rules.now < 2 ^ 25 }
     requires rooted { All (λ r. HasRootBelow symbols r.left) rules.now }
     ensures { IfOk result (IsIndexOf rules.now) }

@@ -13,11 +13,7 @@ use dps_unify::{VarOrder, mgu, rename};
 use std::alloc::Global;
 
 /// A common instance of the left sides whose right sides differ there, and `None` exactly where the rules agree.
-pub(crate) fn overlap(
-    alloc: Global,
-    first: &Rule,
-    second: &Rule,
-) -> Result<Option<Subst>, NoMemory>
+pub(crate) fn overlap(alloc: Global, first: &Rule, second: &Rule) -> Result<Option<Subst>, NoMemory>
     requires bounded { IsBounded first.now }
     requires first_small { HasSmallVariables first.now }
     requires second_small { HasSmallVariables second.now }
@@ -55,12 +51,7 @@ fn unifier_of(alloc: Global, first: &Term, second: Term) -> Result<Option<Subst>
 }
 
 /// Whether the substitution makes the terms equal.
-fn are_equal_under(
-    alloc: Global,
-    by: &Subst,
-    first: &Term,
-    second: &Term,
-) -> Result<bool, NoMemory>
+fn are_equal_under(alloc: Global, by: &Subst, first: &Term, second: &Term) -> Result<bool, NoMemory>
     ensures { IfOk result (λ b. IsTrue b ↔ (substitute (image by.now) first.now ≡ substitute (image by.now) second.now)) }
 {
     let one = first.subst(alloc, by)?;

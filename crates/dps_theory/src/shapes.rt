@@ -14,10 +14,7 @@ pub(crate) struct SymbolShape {
 
 /// The kind and the arity of each symbol.
 #[tactic(auto, using(crate::proofs::Symbols::taken_next))]
-pub(crate) fn shapes_of(
-    alloc: Global,
-    signature: &Signature,
-) -> Result<Vec<SymbolShape>, NoMemory>
+pub(crate) fn shapes_of(alloc: Global, signature: &Signature) -> Result<Vec<SymbolShape>, NoMemory>
     ensures { IfOk result (λ v. map shape_of v.items ≡ shapes signature.now) }
 {
     let mut found = Vec::with_capacity(alloc, signature.symbol_count() as usize)?;

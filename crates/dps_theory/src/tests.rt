@@ -128,12 +128,30 @@ fn binds(alloc: Global, unifier: &Subst) -> bool {
 fn rules_alone(rt: HostRuntime) {
     let alloc = rt.alloc();
     assert!(rt; alone(alloc, &[1, 0], &[]).is_ok());
-    assert!(rt; matches!(alone(alloc, &[1, 0], &[0, 0]), Err(TheoryRefusal::NotSubterm { rule: 1 })));
-    assert!(rt; matches!(alone(alloc, &[0], &[]), Err(TheoryRefusal::RootNotDestructor { rule: 1 })));
     assert!(rt;
-        matches!(alone(alloc, &[1, 2], &[]), Err(TheoryRefusal::ArgumentNotConstructor { rule: 1 }))
+        matches!(
+            alone(alloc, &[1, 0], &[0, 0]),
+            Err(TheoryRefusal::NotSubterm { rule: 1 })
+        )
     );
-    assert!(rt; matches!(alone(alloc, &[1], &[2]), Err(TheoryRefusal::RightNotConstructor { rule: 1 })));
+    assert!(rt;
+        matches!(
+            alone(alloc, &[0], &[]),
+            Err(TheoryRefusal::RootNotDestructor { rule: 1 })
+        )
+    );
+    assert!(rt;
+        matches!(
+            alone(alloc, &[1, 2], &[]),
+            Err(TheoryRefusal::ArgumentNotConstructor { rule: 1 })
+        )
+    );
+    assert!(rt;
+        matches!(
+            alone(alloc, &[1], &[2]),
+            Err(TheoryRefusal::RightNotConstructor { rule: 1 })
+        )
+    );
 }
 
 #[test]

@@ -9,10 +9,10 @@ ghost use Rattle.dps_theory.specs.Projections.{projections as projection_rules};
 ghost use Rattle.dps_theory.specs.Conditions.{AreCheckable, IsRuleOver};
 ghost use Rattle.dps_theory.specs.Checking.{IsRefused};
 
+use crate::Rule;
 use crate::check::{TheoryRefusal, judge};
 use crate::index::{RootIndex, index_of};
 use crate::projections::projections;
-use crate::Rule;
 use crate::shapes::{SymbolShape, shapes_of};
 use dps_terms::{NoMemory, Signature, Sym, SymKind};
 use std::alloc::Global;

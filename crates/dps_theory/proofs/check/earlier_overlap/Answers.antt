@@ -1,5 +1,4 @@
-use Rattle.std.proofs.Common.{◌≡◌, get_or, length, refl, arith, sym, ◌∙◌, Some, subst}
-use Rattle.std.specs.Prelude.{slice_get}
+use Rattle.std.proofs.Common.{get_or, length, refl, subst}
 use Rattle.std.proofs.lemmas.Option.{slice_get_read}
 use Rattle.dps_theory.specs.Theory.{Rule, Agree}
 use Rattle.dps_theory.specs.Overlaps.{HasSmallVariables, IsOverlap}
@@ -21,7 +20,7 @@ overlap-requires-clause-bounded c =
     let inside =
     before_within c.requires.judged.0 c.args.rules.now c.args.place c.requires.judged.1 q.0 c.args.earlier.now c.loop-before.before-index c.loop-before-test.true (c.loop-before.invariant q.0 q.1) in
     (c.requires.judged.1.forms (get_or c.args.earlier.now c.loop-before.before-index 0) c.index-rules-before.result inside.0
-      (slice_get_read c.args.rules.now (length c.args.rules.now) _ _ refl inside.1 c.index-rules-before.is)).bounded
+    (slice_get_read c.args.rules.now (length c.args.rules.now) _ _ refl inside.1 c.index-rules-before.is)).bounded
 
 pub overlap-requires-clause-first_small : goal.overlap-requires-clause-first_small
 overlap-requires-clause-first_small c =

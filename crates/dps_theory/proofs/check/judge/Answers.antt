@@ -1,4 +1,4 @@
-use Rattle.std.proofs.Common.{◌≡◌, ◌<◌, length, map, take, refl, arith, sym, ◌∙◌, ap, Some, subst, true, length-set}
+use Rattle.std.proofs.Common.{◌<◌, length, map, arith, ◌∙◌, ap, length-set}
 use Rattle.dps_theory.specs.Held.{shape_of}
 use Rattle.dps_theory.proofs.Accepting.{judged_all}
 use Rattle.dps_theory.proofs.Walking.{index_taken}

@@ -1,5 +1,4 @@
-use Rattle.std.proofs.Common.{◌≡◌, ◌<◌, length, map, take, refl, arith, sym, ◌∙◌, ap, Some, subst, true, lit<}
-use Rattle.std.specs.Prelude.{slice_get}
+use Rattle.std.proofs.Common.{◌≡◌, length, map, refl, arith, sym, ◌∙◌, ap, subst, true}
 use Rattle.std.proofs.lemmas.List.{length-map}
 use Rattle.std.proofs.lemmas.Option.{slice_get_read}
 use Rattle.dps_terms.specs.Seen.{seen}
@@ -17,10 +16,10 @@ returns-in-Some-clause-refused c =
 pub earlier_overlap-requires-clause-listed : goal.earlier_overlap-requires-clause-listed
 earlier_overlap-requires-clause-listed c =
     let here = slice_get_read c.args.rules.now (length c.args.rules.now) _ _ refl c.requires.inside c.index-rules-place.is in
-    let root : has_root c.in-App.root.number c.index-rules-place.result.left ≡ true = rw (← c.rule.view_is, ← c.whole.ensures) (root_from_view (seen c.whole.result) c.in-App.root c.in-App.ensures) in
-    ( c.in-App.root.number
-    , λ q e. subst (λ (r : Rule). has_root c.in-App.root.number r.left ≡ true) (same_element c.args.rules.now c.args.place c.index-rules-place.result q here e) root
-    , c.of.ensures ∙ c.requires.indexed c.in-App.root.number
+    let root : has_root c.in-App.root.number c.index-rules-place.result.left ≡ true = rw (← c.rule.view_is, ← c.whole.ensures) (root_from_view (seen c.whole.result) c.in-App.root c.in-App.ensures) in (
+      c.in-App.root.number,
+      λ q e. subst (λ (r : Rule). has_root c.in-App.root.number r.left ≡ true) (same_element c.args.rules.now c.args.place c.index-rules-place.result q here e) root,
+      c.of.ensures ∙ c.requires.indexed c.in-App.root.number,
     )
 
 pub overflow_add-result : goal.overflow_add-result

@@ -1,5 +1,4 @@
-use Rattle.std.proofs.Common.{◌≡◌, ◌<◌, ◌∙◌, ap, refl, sym, subst, length, arith, length-set, true, Some}
-use Rattle.std.specs.Prelude.{slice_get}
+use Rattle.std.proofs.Common.{◌≡◌, ◌<◌, ◌∙◌, ap, refl, sym, subst, length, arith, length-set, true}
 use Rattle.std.proofs.lemmas.Option.{slice_get_read}
 use Rattle.dps_terms.specs.Seen.{seen}
 use Rattle.dps_theory.specs.Theory.{Rule}

@@ -1,4 +1,4 @@
-use Rattle.std.proofs.Common.{◌≡◌, ◌+◌, ◌<◌, ◌^◌, ◌∙◌, ap, sym, refl, true, false}
+use Rattle.std.proofs.Common.{◌≡◌, ◌∙◌, sym, true, false}
 use Rattle.dps_theory.specs.Theory.{Rule}
 use Rattle.dps_theory.proofs.Overlapping.{small_variables, left_has_room, right_has_room, overlap_none, overlap_same, overlap_different}
 use Rattle.dps_theory.proofs.overlap.overlap.Goals as goal
@@ -33,7 +33,7 @@ returns-then-branch c =
     let q : Rule = record { left = c.second.inside.left; right = c.second.inside.right } in
     rw (← c.first.view_is, ← c.second.view_is)
     (overlap_same r q c.in_ok-by.by c.in_ok-left.left c.in_ok-by.ensures c.in_ok-left.ensures c.in-Some.unifier (rw c.in-Some.is at c.in_ok-unifier.ensures) c.in_ok-right.right c.in_ok-right.ensures
-      (rw (← c.first.view_is) at c.requires.bounded) (c.in_ok-are_equal_under.ensures.0 c.if-branch.true))
+    (rw (← c.first.view_is) at c.requires.bounded) (c.in_ok-are_equal_under.ensures.0 c.if-branch.true))
 
 pub returns : goal.returns
 returns c =
@@ -41,4 +41,4 @@ returns c =
     let q : Rule = record { left = c.second.inside.left; right = c.second.inside.right } in
     rw (← c.first.view_is, ← c.second.view_is)
     (overlap_different r q c.in_ok-by.by c.in_ok-left.left c.in_ok-by.ensures c.in_ok-left.ensures c.in-Some.unifier (rw c.in-Some.is at c.in_ok-unifier.ensures) c.in_ok-right.right c.in_ok-right.ensures
-      (λ e. let k : false ≡ true = sym c.if-branch.false ∙ c.in_ok-are_equal_under.ensures.1 e in cc))
+    (λ e. let k : false ≡ true = sym c.if-branch.false ∙ c.in_ok-are_equal_under.ensures.1 e in cc))

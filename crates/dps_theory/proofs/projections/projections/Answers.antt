@@ -1,4 +1,4 @@
-use Rattle.std.proofs.Common.{◌≡◌, arith, ◌∙◌}
+use Rattle.std.proofs.Common.{arith, ◌∙◌}
 use Rattle.dps_theory.specs.Projections.{projections_of}
 use Rattle.dps_theory.proofs.Projecting.{lists_next, lists_all}
 use Rattle.dps_theory.proofs.projections.projections.Goals as goal

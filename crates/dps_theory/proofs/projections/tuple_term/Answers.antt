@@ -1,4 +1,4 @@
-use Rattle.std.proofs.Common.{◌≡◌, [], length, map, arith, ap, ◌∙◌, ◌-◌}
+use Rattle.std.proofs.Common.{[], length, arith, ap, ◌∙◌, ◌-◌}
 use Rattle.std.specs.List.{range_with_len}
 use Rattle.std.proofs.lemmas.List.{length-map}
 use Rattle.dps_terms.specs.Tree.{leaf, var}

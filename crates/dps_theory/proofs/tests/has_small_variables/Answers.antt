@@ -7,5 +7,5 @@ returns-then-left c = λ e.
     let r : Rule = record { left = c.rule.inside.left; right = c.rule.inside.right } in
     rw (← c.rule.view_is)
     (small_on_both r
-      (rw c.in_ok-vars.ensures at (rw c.deref.ensures.value at (c.small-left.ensures.0 c.if-left.true)))
-      (rw c.in_ok-vars-2.ensures at (rw c.deref-2.ensures.value at (c.small-right.ensures.0 e))))
+    (rw c.in_ok-vars.ensures at (rw c.deref.ensures.value at (c.small-left.ensures.0 c.if-left.true)))
+    (rw c.in_ok-vars-2.ensures at (rw c.deref-2.ensures.value at (c.small-right.ensures.0 e))))

@@ -7,4 +7,4 @@ pub returns-in-Ok-joined-clause-over : goal.returns-in-Ok-joined-clause-over
 returns-in-Ok-joined-clause-over c =
     rw c.in-Ok-joined.ensures
     (over_cases c.args.signature.now c.args.rules.items (map shape_of c.in-Ok.shapes.items) c.in-Ok.ensures c.requires
-      (rw c.deref.ensures.value at (rw c.deref-2.ensures.value at c.in_ok-judge.ensures.accepted)))
+    (rw c.deref.ensures.value at (rw c.deref-2.ensures.value at c.in_ok-judge.ensures.accepted)))

@@ -1,10 +1,7 @@
-use Rattle.std.proofs.Common.{◌≡◌, ◌++◌, ◌∙◌, ap, sym, subst, length, map, List, arith}
+use Rattle.std.proofs.Common.{◌≡◌, ◌++◌, ◌∙◌, ap, length, map, arith}
 use Rattle.std.proofs.lemmas.List.{length-map}
-use Rattle.std.specs.List.{All}
 use Rattle.dps_terms.specs.Signature.{shapes}
-use Rattle.dps_theory.specs.Theory.{Rule}
 use Rattle.dps_theory.specs.Held.{shape_of}
-use Rattle.dps_theory.specs.Index.{HasRootBelow}
 use Rattle.dps_theory.specs.Projections.{projections}
 use Rattle.dps_theory.proofs.TupleRules.{few_rules, roots_below, kept_with_projections}
 use Rattle.dps_theory.proofs.theory.Theory.joined.Goals as goal
@@ -24,7 +21,7 @@ index_of-requires-clause-rooted c =
 
 pub invariant_of-result : goal.invariant_of-result
 invariant_of-result c =
-    let same : c.append.new.self.items ≡ projections c.args.signature.now ++ c.args.rules.items = c.in_ok-append.ensures.items ∙ ap (λ l. l ++ c.args.rules.items) c.in_ok-all.ensures in
-    ( rw (c.requires.known, same) (kept_with_projections c.args.signature.now c.args.rules.items (map shape_of c.args.known.items) c.requires.known c.requires.checkable c.requires.accepted)
-    , rw c.deref.ensures.value at c.in_ok-index.ensures
+    let same : c.append.new.self.items ≡ projections c.args.signature.now ++ c.args.rules.items = c.in_ok-append.ensures.items ∙ ap (λ l. l ++ c.args.rules.items) c.in_ok-all.ensures in (
+      rw (c.requires.known, same) (kept_with_projections c.args.signature.now c.args.rules.items (map shape_of c.args.known.items) c.requires.known c.requires.checkable c.requires.accepted),
+      rw c.deref.ensures.value at c.in_ok-index.ensures,
     )
