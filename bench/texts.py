@@ -1,4 +1,5 @@
-"""Writes texts into the folder that is named: those for `lexing`, `reading` or `comparing`. None is over 1,048,576 bytes."""
+"""Writes texts into the folder that is named: those for `lexing`, `reading`, `unifying` or `comparing`. None is over
+1,048,576 bytes."""
 import pathlib
 import sys
 
@@ -65,6 +66,10 @@ COMPARING = {
     "hidden_last": frames(*HIDDEN, message(["a0"] * 10), SHORT),
 }
 
+# names of cases: trees whose last or first leaves are two names; last leaves that are a variable and a name; variables
+# against doubled ones; the same, and a pair that fails behind them
+UNIFYING = {"last": "last", "first": "first", "variable": "variable", "doubled": "doubled", "clash": "clash"}
+
 folder = pathlib.Path(sys.argv[2])
-for name, text in {"lexing": LEXING, "reading": READING, "comparing": COMPARING}[sys.argv[1]].items():
+for name, text in {"lexing": LEXING, "reading": READING, "unifying": UNIFYING, "comparing": COMPARING}[sys.argv[1]].items():
     (folder / f"{name}.txt").write_text(text)

@@ -6,3 +6,11 @@ pub mod FreshNames
 pub mod NamesUnseen
 pub mod Encryption
 pub mod Hiding
+pub mod Symbols
+pub mod Forms
+pub mod Overlapping
+pub mod Walking
+pub mod Agreeing
+pub mod Accepting
+pub mod Projecting
+pub mod TupleRules

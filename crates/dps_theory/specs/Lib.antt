@@ -3,3 +3,11 @@ pub mod Evaluation
 pub mod Frames
 pub mod Laws
 pub mod Examples
+pub mod Stored
+pub mod Held
+pub mod Overlaps
+pub mod Index
+pub mod Checking
+pub mod Judging
+pub mod Projections
+pub mod Conditions

@@ -1,0 +1,10 @@
+pub mod Orders
+pub mod Bound
+pub mod Trees
+pub mod Chains
+pub mod Pairs
+pub mod Reached
+pub mod Unifying
+pub mod Solving
+pub mod Matched
+pub mod Renamed

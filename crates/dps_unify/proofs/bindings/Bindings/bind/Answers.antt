@@ -1,0 +1,19 @@
+use Rattle.std.proofs.Common.{nat_eq, map, refl}
+use Rattle.std.proofs.lemmas.List.{map-append}
+use Rattle.indexmap.proofs.CallerLemmas.{insert_entry-new}
+use Rattle.dps_terms.specs.Seen.{seen}
+use Rattle.dps_terms.proofs.Bound.{distinct_push}
+use Rattle.dps_unify.proofs.Bound.{absent-map}
+use Rattle.dps_unify.proofs.bindings.Bindings.bind.Goals as goal
+
+pub invariant_of-self-2 : goal.invariant_of-self-2
+invariant_of-self-2 c =
+    let free = rw (← c.self.view_is) at c.requires in
+    let absent = absent-map seen c.self.inside.terms.entries c.args.variable free in
+    rw (c.in_ok-insert.ensures.entries, insert_entry-new nat_eq c.self.inside.terms _ _ absent, map-append) (distinct_push _ _ c.self.invariant free)
+
+pub returns-clause-ok : goal.returns-clause-ok
+returns-clause-ok c =
+    let free = rw (← c.self.view_is) at c.requires in
+    let absent = absent-map seen c.self.inside.terms.entries c.args.variable free in
+    rw (c.in_ok-insert.ensures.entries, insert_entry-new nat_eq c.self.inside.terms _ _ absent, map-append, c.self.view_is) refl
