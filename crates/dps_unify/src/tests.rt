@@ -111,7 +111,8 @@ fn patterns(rt: HostRuntime) {
 #[test]
 fn renamings(rt: HostRuntime) -> Result<(), Fail> {
     let alloc = rt.alloc();
-    let raised = rename(alloc, &made(alloc, Shape::G(1, 2))?, 5)?;
-    assert!(rt; raised.equals(&made(alloc, Shape::G(6, 7))?));
+    let term = Term::var(alloc, 1)?;
+    let raised = rename(alloc, &term, 5)?;
+    assert!(rt; raised.equals(&Term::var(alloc, 6)?));
     Ok(())
 }
