@@ -8,6 +8,7 @@
 
 mod binders;
 mod closing;
+mod comparing;
 pub mod examples;
 pub mod laws;
 mod problem;

@@ -57,7 +57,7 @@ fn is_like(
     };
     process.closed() == closed
         && process.size() == before
-        && copy.size() == before
+        && copy.equals(&process)
         && changed.size() == after
 }
 
