@@ -13,3 +13,4 @@ pub mod Views
 pub mod Binders
 pub mod Scopes
 pub mod Kept
+pub mod Checks

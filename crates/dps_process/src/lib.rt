@@ -7,6 +7,7 @@
 #![tactic(auto)]
 
 mod binders;
+mod checking;
 mod closing;
 mod comparing;
 pub mod examples;

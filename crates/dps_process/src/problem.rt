@@ -1,7 +1,8 @@
 //! Problems as values.
-ghost use Rattle.std.specs.Prelude.{◌≡◌, ◌<◌, ◌↔◌, length, IsTrue};
+ghost use Rattle.std.specs.Prelude.{◌≡◌, ◌<◌, ◌↔◌, length, IsTrue, IsSome, IfSome};
 ghost use Rattle.dps_terms.specs.Signature.{IsPrivate};
-ghost use Rattle.dps_process.specs.Problem.{side_of, IsLawful, HasHighBinders};
+ghost use Rattle.dps_process.specs.Problem.{side_of, IsLawful, IsLawfulTheory, HasHighBinders};
+ghost use Rattle.dps_process.specs.Kept.{IsKept};
 
 use crate::Process;
 use dps_branch::Side;
@@ -50,6 +51,28 @@ impl Problem {
             left,
             right,
         }
+    }
+
+    /// The problem of the two sides, or `None` exactly where no file may mean it or a bound variable has a number below
+    /// 2^63. The theory is that of a file over the signature.
+    pub fn check(
+        signature: Signature,
+        theory: Theory,
+        left: Process,
+        right: Process,
+    ) -> Option<Problem>
+        requires { IsLawfulTheory signature theory }
+        ensures made { IfSome result (λ problem. problem ≡ record { signature = signature; theory = theory; left = left; right = right }) }
+        ensures meant { IsSome result ↔ IsKept (record { signature = signature; theory = theory; left = left; right = right }) }
+    {
+        if left.is_lawful(&signature)
+            && right.is_lawful(&signature)
+            && left.has_high_binders()
+            && right.has_high_binders()
+        {
+            return Some(Problem::new(signature, theory, left, right));
+        }
+        None
     }
 
     /// The symbols and the names.

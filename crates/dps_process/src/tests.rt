@@ -1,7 +1,6 @@
 //! A table of processes, one on a long path, and a problem.
-use crate::{Problem, Process, ProcessView};
-use dps_branch::Side;
-use dps_terms::{NoMemory, Signature, Subst, Sym, SymKind, Term};
+use crate::{Problem, Process};
+use dps_terms::{NoMemory, Signature, Subst, Sym, Term, is_identifier};
 use dps_theory::Theory;
 use std::alloc::Global;
 use std::test::Fail;
@@ -122,18 +121,32 @@ fn long_path(rt: HostRuntime) -> Result<(), Fail> {
     Ok(())
 }
 
-fn smallest(alloc: Global, signature: Signature) -> Result<Problem, NoMemory> {
+/// The problem of `0` and `in(0,x); out(0,x)`, where no name is declared or where one is.
+fn against_nil(alloc: Global, signature: Signature) -> Result<Option<Problem>, NoMemory> {
     let theory = Theory::without_rules(alloc, &signature)?;
     let _ = theory.rules();
-    Ok(Problem::new(signature, theory, Process::nil(), Process::nil()))
+    let variable = 1 << 63;
+    let out = Process::output(alloc, 0, Term::var(alloc, variable)?, Process::nil())?;
+    let right = Process::input(alloc, 0, variable, out)?;
+    Ok(Problem::check(signature, theory, Process::nil(), right))
+}
+
+/// Whether the problem was made, over one name, which is private.
+fn has_private_name(made: Result<Option<Problem>, NoMemory>) -> bool {
+    match made {
+        Ok(Some(problem)) => problem.signature().name_count() == 1 && problem.is_private(0),
+        _ => false,
+    }
 }
 
 #[test]
 fn a_problem(rt: HostRuntime) -> Result<(), Fail> {
     let alloc = rt.alloc();
-    let problem = smallest(alloc, Signature::new(alloc))?;
-    assert_eq!(rt; problem.signature().symbol_count(), 0);
-    assert_eq!(rt; problem.theory().kind(Sym { number: 0 }), None::<SymKind>);
-    assert!(rt; matches!(problem.side(Side::Right).view(), ProcessView::Nil));
+    let mut signature = Signature::new(alloc);
+    assert!(rt; is_identifier("c"));
+    signature.add_name("c", true)?;
+    assert!(rt; has_private_name(against_nil(alloc, signature)));
+    let made = against_nil(alloc, Signature::new(alloc));
+    assert!(rt; !has_private_name(made));
     Ok(())
 }
