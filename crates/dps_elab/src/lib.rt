@@ -1,0 +1,5 @@
+//! What a file means.
+#![tactic(auto)]
+
+mod fault;
+pub use fault::ExpansionCause;

@@ -1,0 +1,5 @@
+//! Names.
+#![tactic(auto)]
+
+mod fault;
+pub use fault::{NameCause, NameFault};
