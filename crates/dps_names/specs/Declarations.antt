@@ -1,5 +1,5 @@
 -- Declarations and files, with their names looked up.
-use Rattle.std.specs.Prelude.{◌≡◌, ℕ, zero, suc, ◌+◌, Bool, true, false, ◌&&◌, ◌||◌, nat_le, not, if◌then◌else◌, List, [], ◌∷◌, ◌++◌, Option, Some, None, length, is_some}
+use Rattle.std.specs.Prelude.{ℕ, Bool, false, ◌||◌, nat_le, if◌then◌else◌, List, [], ◌∷◌, ◌++◌, length}
 use Rattle.dps_lex.specs.declared.vocabulary.Place.{Place}
 use Rattle.dps_lex.specs.declared.vocabulary.TokenKind.TheVariants as kinds
 use Rattle.dps_terms.specs.declared.SymKind.TheVariants.{Constructor}
@@ -9,8 +9,9 @@ use Rattle.dps_syntax.specs.Tree.{Lexeme, Parts, none as no_parts, token, inner,
 use Rattle.dps_syntax.specs.declared.tree.Decl.{Decl}
 use Rattle.dps_syntax.specs.declared.tree.Decl.TheVariants.{Free, Const, Fun, Reduc, Define, Query}
 use Rattle.dps_names.specs.declared.fault.NameCause.TheVariants.{NameTwice, ReservedName, LargeArity}
-use Rattle.dps_names.specs.Program.{Program, Side, Definition, WrittenRule, Body, nowhere, empty, parallel}
-use Rattle.dps_names.specs.Scopes.{Outcome, done, faulty, and_then, fault_at, place_of, most_arguments, is_reserved, Meaning, unknown, declared_meaning, is_unknown}
+use Rattle.dps_names.specs.declared.program.Side.{Side}
+use Rattle.dps_names.specs.Program.{Program, Definition, WrittenRule, Body, nowhere, empty, parallel}
+use Rattle.dps_names.specs.Scopes.{Outcome, done, faulty, and_then, fault_at, place_of, most_arguments, is_reserved, declared_meaning, is_unknown}
 use Rattle.dps_names.specs.Terms.{is_kind}
 use Rattle.dps_names.specs.Rules.{rule}
 use Rattle.dps_names.specs.Processes.{number_of, is_among, joined, parallels}
@@ -46,7 +47,7 @@ declare_names is_private (inner p inside parts) program = declare_names is_priva
 declare_names is_private (token lexeme parts) program =
     if is_kind kinds.Identifier lexeme
     then and_then (declaring lexeme program) (λ u after.
-        declare_names is_private parts (with_signature after (with_name after.signature (record { name = lexeme.text; is_private = is_private }))))
+    declare_names is_private parts (with_signature after (with_name after.signature (record { name = lexeme.text; is_private = is_private }))))
     else declare_names is_private parts program
 
 -- whether `private` stands behind the names

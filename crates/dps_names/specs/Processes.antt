@@ -1,5 +1,5 @@
 -- Patterns and processes, with their names looked up. Each function reads the parts of one production.
-use Rattle.std.specs.Prelude.{ℕ, zero, suc, ◌+◌, ◌-◌, Bool, true, false, ◌&&◌, ◌||◌, ◌==◌, nat_le, if◌then◌else◌, List, [], ◌∷◌, ◌++◌, length, take}
+use Rattle.std.specs.Prelude.{ℕ, ◌+◌, ◌-◌, Bool, true, false, ◌&&◌, ◌==◌, nat_le, if◌then◌else◌, List, [], ◌∷◌, ◌++◌, length, take}
 use Rattle.std.specs.List.{list_any}
 use Rattle.std.specs.Str.{bytes_eq}
 use Rattle.std.specs.Str.Parse.{digits_value}
@@ -8,7 +8,10 @@ use Rattle.dps_terms.specs.declared.Sym.{Sym}
 use Rattle.dps_terms.specs.Signature.{Signature}
 use Rattle.dps_syntax.specs.Tree.{Lexeme, Parts, none as no_parts, token, inner}
 use Rattle.dps_names.specs.declared.fault.NameCause.TheVariants.{NameTwice, UnknownName, WrongArity, WrongKind, LargeArity, BadCopies}
-use Rattle.dps_names.specs.Program.{Written, Channel, Step, project, test, Body, Bodies, nil, parallel, choice, copies, fresh, input, output, conditional, bind, call, none, more, Definition}
+use Rattle.dps_names.specs.declared.body.Channel.{Channel}
+use Rattle.dps_names.specs.declared.body.Step.{Step}
+use Rattle.dps_names.specs.declared.body.Step.TheVariants.{Project, Test}
+use Rattle.dps_names.specs.Program.{Written, Body, Bodies, nil, parallel, choice, copies, fresh, input, output, conditional, bind, call, none, more, Definition}
 use Rattle.dps_names.specs.Scopes.{Outcome, done, and_then, fault_at, place_of, most_arguments, with_tuple, Meaning, a_local, a_name, a_function, a_process, a_projection, unknown, meaning}
 use Rattle.dps_names.specs.Terms.{is_kind, count_inner, term, terms, identifier}
 
@@ -89,15 +92,15 @@ module _ (definitions : List Definition) where
       pattern (token lexeme parts) so_far signature =
           if is_kind kinds.Identifier lexeme then variable outside lexeme so_far signature
           else (if is_kind kinds.Equals lexeme
-              then and_then (term definitions outside parts signature) (λ w after. done (with_step (unnamed so_far) (test (length so_far.scope) w)) after)
-              else tuple_pattern lexeme (count_inner parts) (λ symbol after. members parts symbol (length so_far.scope) 1 (unnamed so_far) after) signature)
+          then and_then (term definitions outside parts signature) (λ w after. done (with_step (unnamed so_far) (Test (length so_far.scope) w)) after)
+          else tuple_pattern lexeme (count_inner parts) (λ symbol after. members parts symbol (length so_far.scope) 1 (unnamed so_far) after) signature)
 
       -- The members of the tuple that is the local `from`, from the i-th on.
       pub members : Parts → ℕ → ℕ → ℕ → Pattern → Signature → Outcome Signature Pattern
       members no_parts symbol from i so_far signature = done so_far signature
       members (token lexeme parts) symbol from i so_far signature = members parts symbol from i so_far signature
       members (inner p inside parts) symbol from i so_far signature =
-          and_then (pattern inside (with_step so_far (project (projection_symbol symbol i) from)) signature) (λ next after.
+          and_then (pattern inside (with_step so_far (Project (projection_symbol symbol i) from)) signature) (λ next after.
           members parts symbol from (i + 1) next after)
 
   -- the pattern that stands first in the parts

@@ -1,5 +1,5 @@
 -- Rewrite rules, with their names looked up. An identifier that is not declared is a variable.
-use Rattle.std.specs.Prelude.{ℕ, zero, suc, ◌+◌, ◌-◌, Bool, true, false, ◌&&◌, ◌==◌, nat_le, if◌then◌else◌, List, [], ◌∷◌, ◌++◌, Option, Some, None, length, take, slice_get, unwrap_or, position}
+use Rattle.std.specs.Prelude.{ℕ, zero, suc, ◌-◌, Bool, true, false, ◌&&◌, ◌==◌, nat_le, if◌then◌else◌, List, [], ◌∷◌, ◌++◌, Option, Some, None, length, take, slice_get, unwrap_or, position}
 use Rattle.std.specs.Str.{bytes_eq}
 use Rattle.dps_lex.specs.declared.vocabulary.TokenKind.TheVariants as kinds
 use Rattle.dps_terms.specs.declared.PublicName.TheVariants.{Declared}
@@ -61,8 +61,8 @@ abbrev pub tuple_in_rule : ℕ → (InRule → Outcome InRule (List Tree)) → I
 tuple_in_rule count members state lexeme =
     if nat_le count 1 then and_then (members state) (λ ts after. done (first_tree ts) after)
     else (if nat_le count most_arguments then
-        (let tuple = with_tuple state.signature count in
-         and_then (members (with_signature state tuple.signature)) (λ ts after. done (app (record { number = tuple.symbol }) (trees ts)) after))
+    (let tuple = with_tuple state.signature count in
+    and_then (members (with_signature state tuple.signature)) (λ ts after. done (app (record { number = tuple.symbol }) (trees ts)) after))
     else fault_at LargeArity lexeme)
 
 -- something stands behind the identifier
@@ -93,8 +93,8 @@ module _ (definitions : List Definition) where
   declared_root lexeme count signature =
       if is_reserved lexeme.text then fault_at ReservedName lexeme
       else (if nat_le count most_arguments
-          then done (length signature.symbols) (with_symbol signature (record { name = lexeme.text; kind = Destructor; arity = count }))
-          else fault_at LargeArity lexeme)
+      then done (length signature.symbols) (with_symbol signature (record { name = lexeme.text; kind = Destructor; arity = count }))
+      else fault_at LargeArity lexeme)
 
   abbrev pub root_as : Lexeme → ℕ → Signature → Meaning → Outcome Signature ℕ
   root_as lexeme count signature (a_function f arity) = if count == arity then done f signature else fault_at WrongArity lexeme
@@ -109,9 +109,10 @@ module _ (definitions : List Definition) where
   sides_of lexeme f count (faulty fault) = faulty fault
   sides_of lexeme f count (done ts state) =
       done (record {
-          rule = record { left = app (record { number = f }) (trees (take count ts)); right = unwrap_or (slice_get ts count) (leaf (var 0)) };
-          place = place_of lexeme;
-          variables = state.variables }) state.signature
+        rule = record { left = app (record { number = f }) (trees (take count ts)); right = unwrap_or (slice_get ts count) (leaf (var 0)) };
+        place = place_of lexeme;
+        variables = state.variables;
+      }) state.signature
 
   abbrev pub rule : Parts → Signature → Outcome Signature (List WrittenRule)
   rule none signature = done [] signature

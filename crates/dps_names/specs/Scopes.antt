@@ -1,13 +1,12 @@
 -- What an identifier means where it stands, and the first fault of a text's names.
-use Rattle.std.specs.Prelude.{ℕ, zero, suc, ◌+◌, ◌-◌, Bool, true, false, ◌&&◌, ◌||◌, ◌==◌, not, nat_le, if◌then◌else◌, List, [], ◌∷◌, ◌++◌, Option, Some, None, length, position, slice_get, take, codes, unwrap_or, is_some}
+use Rattle.std.specs.Prelude.{ℕ, zero, suc, ◌+◌, ◌-◌, Bool, true, false, ◌&&◌, ◌||◌, ◌==◌, nat_le, if◌then◌else◌, List, [], ◌∷◌, ◌++◌, Option, Some, None, length, position, slice_get, take, codes, unwrap_or}
 use Rattle.std.specs.Str.{byte, bytes_eq}
 use Rattle.std.specs.List.{list_all}
 use Rattle.std.specs.Option.{option_map}
 use Rattle.dps_lex.specs.declared.vocabulary.Place.{Place}
-use Rattle.dps_terms.specs.declared.SymKind.{SymKind}
 use Rattle.dps_terms.specs.declared.SymKind.TheVariants.{Constructor, Destructor}
 use Rattle.dps_terms.specs.Signature.{Symbol, Name, Signature}
-use Rattle.dps_terms.specs.Names.{IsIdentifier, is_digit, tuple_name, symbol_named, name_named}
+use Rattle.dps_terms.specs.Names.{is_digit, tuple_name, symbol_named, name_named}
 use Rattle.dps_syntax.specs.Tree.{Lexeme}
 use Rattle.dps_names.specs.declared.fault.NameCause.{NameCause}
 use Rattle.dps_names.specs.declared.fault.NameFault.{NameFault}
@@ -90,8 +89,9 @@ pub record Tupled : Type 0 where
 abbrev pub tuple_at : Signature → ℕ → Option ℕ → Tupled
 tuple_at signature n (Some s) = record { symbol = s; signature = signature }
 tuple_at signature n None = record {
-    symbol = length signature.symbols;
-    signature = record { symbols = signature.symbols ++ tuple_symbols n; names = signature.names } }
+  symbol = length signature.symbols;
+  signature = record { symbols = signature.symbols ++ tuple_symbols n; names = signature.names };
+}
 
 abbrev pub with_tuple : Signature → ℕ → Tupled
 with_tuple signature n = tuple_at signature n (symbol_named signature (tuple_name n))

@@ -1,5 +1,5 @@
 -- Terms of processes, with their names looked up. Each function reads the parts of one production.
-use Rattle.std.specs.Prelude.{◌≡◌, ℕ, zero, suc, ◌+◌, Bool, true, false, ◌&&◌, ◌==◌, nat_le, if◌then◌else◌, List, [], ◌∷◌, ◌++◌}
+use Rattle.std.specs.Prelude.{ℕ, zero, suc, ◌+◌, Bool, true, false, ◌&&◌, ◌==◌, nat_le, if◌then◌else◌, List, [], ◌∷◌, ◌++◌}
 use denote.Enum.Bare.{sameb}
 use Rattle.dps_lex.specs.contracts.vocabulary.TokenKind.{the_type}
 use Rattle.dps_lex.specs.declared.vocabulary.TokenKind.{TokenKind}
@@ -9,8 +9,10 @@ use Rattle.dps_terms.specs.Tree.{Leaf, public, private, var, Tree, leaf, app, tr
 use Rattle.dps_terms.specs.Signature.{Signature}
 use Rattle.dps_syntax.specs.Tree.{Lexeme, Parts, none, token, inner}
 use Rattle.dps_names.specs.declared.fault.NameCause.TheVariants.{UnknownName, WrongArity, WrongKind, LargeArity}
-use Rattle.dps_names.specs.Program.{Use, private_name, local, Written, Definition}
-use Rattle.dps_names.specs.Scopes.{Outcome, done, and_then, fault_at, place_of, most_arguments, Projection, with_tuple, Meaning, a_local, a_name, a_function, a_process, a_projection, unknown, meaning, private_number}
+use Rattle.dps_names.specs.declared.written.Use.{Use}
+use Rattle.dps_names.specs.declared.written.Use.TheVariants.{PrivateName, Local}
+use Rattle.dps_names.specs.Program.{Written, Definition}
+use Rattle.dps_names.specs.Scopes.{Outcome, done, and_then, fault_at, place_of, most_arguments, with_tuple, Meaning, a_local, a_name, a_function, a_process, a_projection, unknown, meaning, private_number}
 
 abbrev pub is_kind : TokenKind → Lexeme → Bool
 is_kind kind lexeme = sameb the_type kind lexeme.kind
@@ -39,7 +41,7 @@ applied f arguments = record { tree = app (record { number = f }) (trees (all_tr
 -- a declared name: a private one is written as its number among the private ones
 abbrev pub name_written : Signature → Lexeme → ℕ → Bool → Written
 name_written signature lexeme n false = written (public (Declared n)) []
-name_written signature lexeme n true = written (private (private_number signature n)) (private_name n (place_of lexeme) ∷ [])
+name_written signature lexeme n true = written (private (private_number signature n)) (PrivateName n (place_of lexeme) ∷ [])
 
 -- what is without arguments, and has none here
 abbrev pub without_arguments : Lexeme → ℕ → Signature → Written → Outcome Signature Written
@@ -53,7 +55,7 @@ function_of lexeme false arguments f = fault_at WrongArity lexeme
 
 -- An identifier of a term, with so many arguments; `arguments` reads them.
 abbrev pub identifier_as : Lexeme → ℕ → (Signature → Outcome Signature (List Written)) → Signature → Meaning → Outcome Signature Written
-identifier_as lexeme count arguments signature (a_local n) = without_arguments lexeme count signature (written (var n) (local n ∷ []))
+identifier_as lexeme count arguments signature (a_local n) = without_arguments lexeme count signature (written (var n) (Local n ∷ []))
 identifier_as lexeme count arguments signature (a_name n is_private) = without_arguments lexeme count signature (name_written signature lexeme n is_private)
 identifier_as lexeme count arguments signature (a_function f arity) =
     function_of lexeme (count == arity && nat_le arity most_arguments) (arguments signature) f
@@ -72,8 +74,8 @@ abbrev pub tuple_of : ℕ → (Signature → Outcome Signature (List Written)) �
 tuple_of count members signature lexeme =
     if nat_le count 1 then and_then (members signature) (λ ws after. done (the_first ws) after)
     else (if nat_le count most_arguments then
-        (let tuple = with_tuple signature count in
-         and_then (members tuple.signature) (λ ws after. done (applied tuple.symbol ws) after))
+    (let tuple = with_tuple signature count in
+    and_then (members tuple.signature) (λ ws after. done (applied tuple.symbol ws) after))
     else fault_at LargeArity lexeme)
 
 module _ (definitions : List Definition) (scope : List (List ℕ)) where
