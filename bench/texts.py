@@ -1,4 +1,4 @@
-"""Writes texts of at most 1,048,576 bytes into the folder that is named: those for `lexing`, or those for `reading`."""
+"""Writes texts into the folder that is named: those for `lexing`, `reading` or `comparing`. None is over 1,048,576 bytes."""
 import pathlib
 import sys
 
@@ -36,6 +36,33 @@ READING = {
     "brackets": filled("query trace_equiv(0", "|" + "(" * 150 + "0" + ")" * 150, ", 0)."),
 }
 
+
+
+def message(leaves):
+    """A message of 20 nodes over ten names, of one shape, the first names deepest."""
+    level = [f"{leaf} " for leaf in leaves]
+    while len(level) > 1:
+        level = [left + right + "f0 " for left, right in zip(level[::2], level[1::2])] + level[len(level) // 2 * 2 :]
+    return level[0] + "h0 "
+
+
+def frames(last_leaf, other_last_leaf, last, other_last):
+    """Two frames of 1,000 messages, whose last leaves are given by number, and two last messages."""
+    def frame(leaf):
+        return "".join(message(["a0", "a1", "a2", f"a{i}"] + ["a3"] * 5 + [leaf(i)]) for i in range(3, 1002))
+    return f"{frame(last_leaf)}{last}\n{frame(other_last_leaf)}{other_last}"
+
+
+OPEN = (lambda i: f"a{i}", lambda i: f"a{i}")
+HIDDEN = (lambda i: f"n{i}", lambda i: f"n{i + 5000}")
+SHORT = message(["a0"] * 9 + ["n1"])
+COMPARING = {
+    "open": frames(*OPEN, SHORT, SHORT),
+    "open_last": frames(*OPEN, message(["a0"] * 10), SHORT),
+    "hidden": frames(*HIDDEN, SHORT, SHORT),
+    "hidden_last": frames(*HIDDEN, message(["a0"] * 10), SHORT),
+}
+
 folder = pathlib.Path(sys.argv[2])
-for name, text in {"lexing": LEXING, "reading": READING}[sys.argv[1]].items():
+for name, text in {"lexing": LEXING, "reading": READING, "comparing": COMPARING}[sys.argv[1]].items():
     (folder / f"{name}.txt").write_text(text)

@@ -2,6 +2,8 @@ pub mod Bags
 pub mod Substituting
 pub mod FreeVariables
 pub mod Standing
+pub mod Scoping
+pub mod Privacy
 pub mod Running
 pub mod Channels
 pub mod Values

@@ -6,3 +6,10 @@ pub mod Lawful
 pub mod Laws
 pub mod Examples
 pub mod Runs
+pub mod Stored
+pub mod Nodes
+pub mod Deeper
+pub mod Views
+pub mod Binders
+pub mod Scopes
+pub mod Kept

@@ -6,6 +6,25 @@
 //! trace or not.
 #![tactic(auto)]
 
+mod binders;
+mod closing;
+mod comparing;
 pub mod examples;
 pub mod laws;
+mod problem;
+mod process;
 pub mod runs;
+mod substitution;
+#[cfg(test)]
+mod tests;
+
+pub use problem::Problem;
+pub use process::{Process, ProcessView};
+
+/// Processes and problems may be handed to other threads and be shared with them.
+pub fn are_shared() {
+    is_shared::<Process>();
+    is_shared::<Problem>();
+}
+
+fn is_shared<T: Send + Sync>() {}

@@ -1,0 +1,139 @@
+//! A table of processes, one on a long path, and a problem.
+use crate::{Problem, Process, ProcessView};
+use dps_branch::Side;
+use dps_terms::{NoMemory, Signature, Subst, Sym, SymKind, Term};
+use dps_theory::Theory;
+use std::alloc::Global;
+use std::test::Fail;
+
+/// The variable of the table, which a substitution binds.
+const X: u64 = 7;
+
+/// `out(0,x); 0`
+fn tells(alloc: Global) -> Result<Process, NoMemory> {
+    Process::output(alloc, 0, Term::var(alloc, X)?, Process::nil())
+}
+
+fn listens(alloc: Global, variable: u64) -> Result<Process, NoMemory> {
+    Process::input(alloc, 0, variable, tells(alloc)?)
+}
+
+fn tests(alloc: Global) -> Result<Process, NoMemory> {
+    let left = Term::var(alloc, X)?;
+    let right = Term::private(alloc, 3)?;
+    Process::conditional(alloc, left, right, Process::nil(), listens(alloc, X)?)
+}
+
+fn binds(alloc: Global, then: Process, other: Process) -> Result<Process, NoMemory> {
+    Process::bind(alloc, X, Term::private(alloc, 3)?, then, other)
+}
+
+/// A closed term of three nodes in the place of x.
+fn replaced(alloc: Global, process: &Process) -> Result<Process, NoMemory> {
+    let mut by = Subst::empty(alloc);
+    let first = Term::private(alloc, 1)?;
+    let second = Term::private(alloc, 2)?;
+    let pair = Term::app(alloc, Sym { number: 0 }, vec![in alloc; first, second]?)?;
+    by.bind(X, pair)?;
+    process.subst(alloc, &by)
+}
+
+/// Whether the process was made, is closed or not, and has this size before and after x is replaced.
+fn is_like(
+    alloc: Global,
+    made: Result<Process, NoMemory>,
+    closed: bool,
+    before: u64,
+    after: u64,
+) -> bool {
+    let Ok(process) = made else {
+        return false;
+    };
+    let Ok(changed) = replaced(alloc, &process) else {
+        return false;
+    };
+    let Ok(copy) = process.copy(alloc) else {
+        return false;
+    };
+    process.closed() == closed
+        && process.size() == before
+        && copy.equals(&process)
+        && changed.size() == after
+}
+
+fn pair(alloc: Global, left: Process, right: Process) -> Result<Process, NoMemory> {
+    let parallel = Process::parallel(alloc, left, right)?;
+    Process::choice(alloc, Process::nil(), parallel)
+}
+
+#[test]
+fn table(rt: HostRuntime) -> Result<(), Fail> {
+    let alloc = rt.alloc();
+    assert!(rt; is_like(alloc, Ok(Process::nil()), true, 1, 1));
+    assert!(rt; is_like(alloc, tells(alloc), false, 3, 5));
+    assert!(rt; is_like(alloc, listens(alloc, X), true, 4, 4));
+    assert!(rt; is_like(alloc, listens(alloc, 8), false, 4, 6));
+    assert!(rt; is_like(alloc, tests(alloc), false, 8, 10));
+    assert!(rt;
+        is_like(
+            alloc,
+            binds(alloc, tells(alloc)?, Process::nil()),
+            true,
+            6,
+            6
+        )
+    );
+    assert!(rt;
+        is_like(
+            alloc,
+            binds(alloc, tells(alloc)?, tells(alloc)?),
+            false,
+            8,
+            10
+        )
+    );
+    assert!(rt;
+        is_like(
+            alloc,
+            pair(alloc, tells(alloc)?, listens(alloc, X)?),
+            false,
+            10,
+            12
+        )
+    );
+    Ok(())
+}
+
+/// `height` bindings, one below the other, each of a variable of its own to x.
+fn tower(alloc: Global, height: u32) -> Result<Process, NoMemory> {
+    let mut process = tells(alloc)?;
+    for index in 0..height {
+        let term = Term::var(alloc, X)?;
+        process = Process::bind(alloc, u64::from(index) + 100, term, process, Process::nil())?;
+    }
+    Ok(process)
+}
+
+/// A path may have 1,000 nodes.
+#[test]
+fn long_path(rt: HostRuntime) -> Result<(), Fail> {
+    let alloc = rt.alloc();
+    assert!(rt; is_like(alloc, tower(alloc, 1000), false, 3003, 5005));
+    Ok(())
+}
+
+fn smallest(alloc: Global, signature: Signature) -> Result<Problem, NoMemory> {
+    let theory = Theory::without_rules(alloc, &signature)?;
+    let _ = theory.rules();
+    Ok(Problem::new(signature, theory, Process::nil(), Process::nil()))
+}
+
+#[test]
+fn a_problem(rt: HostRuntime) -> Result<(), Fail> {
+    let alloc = rt.alloc();
+    let problem = smallest(alloc, Signature::new(alloc))?;
+    assert_eq!(rt; problem.signature().symbol_count(), 0);
+    assert_eq!(rt; problem.theory().kind(Sym { number: 0 }), None::<SymKind>);
+    assert!(rt; matches!(problem.side(Side::Right).view(), ProcessView::Nil));
+    Ok(())
+}

@@ -1,0 +1,239 @@
+-- Ways by their roots.
+use Rattle.std.proofs.Common.{◌≡◌, ℕ, zero, suc, ◌+◌, ◌<◌, ◌≤◌, List, [], ◌∷◌, ◌++◌, length, slice_get, unwrap_or, get_or, map, take, Option, Some, None, refl, ap, sym, ◌∙◌, subst, inl, inr, arith}
+use Rattle.std.specs.Prelude.{◌⊎◌, All}
+use Rattle.std.specs.Option.{option_map}
+use Rattle.std.proofs.lemmas.List.{map-append, length-map, take_all, take_more}
+use Rattle.std.proofs.lemmas.Option.{none-some, slice_get_within, slice_get-get_or, unwrap_or-slice_get, get_or_from_slice_get, slice_get-map}
+use Rattle.dps_terms.specs.declared.Sym.{Sym}
+use Rattle.dps_terms.specs.declared.PublicName.{PublicName}
+use Rattle.dps_terms.specs.declared.borrowed.TermView.{TermView}
+use Rattle.dps_terms.specs.declared.borrowed.TermView.TheVariants.{App, Public}
+use Rattle.dps_terms.specs.Tree.{Leaf, public, private, var, ax, entry, rigid, Tree, Trees, leaf, app, none, more, list_of, trees}
+use Rattle.dps_terms.specs.Views.{leaf_view, view_of, arguments}
+use Rattle.dps_terms.specs.Replace.{replace_all, numbered, entries_to, put_entries}
+use Rattle.dps_terms.specs.Kinds.{IsBuiltOf, AreBuiltOf, AnySymbol, IsNoVariable, IsKnowledgeLeaf, NoRigidName}
+use Rattle.dps_static.specs.Ways.{AnyName, IsWay, Builds, IsNotBuilt, Composes, IsNotComposed, IsFirst, IsNotKept}
+
+-- a list of ways
+pub record AreWays (n : ℕ) (ways : Trees) : Type 0 where
+  pub closed : AreBuiltOf IsNoVariable AnySymbol ways
+  pub known : AreBuiltOf (IsKnowledgeLeaf AnyName NoRigidName n) AnySymbol ways
+
+abbrev pub put_all : List Tree → Trees → Trees
+put_all kept ways = replace_all (entries_to kept) ways
+
+pub first_is_one : (kept : List Tree) (tree : Tree) (k l : ℕ) → IsFirst kept tree k → IsFirst kept tree l → k ≡ l
+first_is_one kept tree k l a b =
+    let not_less : k < l → ⊥ = λ h. b.none_before k h a.here in
+    let not_more : l < k → ⊥ = λ h. a.none_before l h b.here in omega (arith, not_less, not_more)
+
+-- an entry is the tree at its place
+pub numbered-there : (kept : List Tree) (k : ℕ) (tree other : Tree) → slice_get kept k ≡ Some tree → numbered kept (suc k) other ≡ tree
+numbered-there kept k tree other e = ap (λ o. unwrap_or o other) e
+
+pub there-numbered : (kept : List Tree) (k : ℕ) (tree other : Tree) → k < length kept → numbered kept (suc k) other ≡ tree → slice_get kept k ≡ Some tree
+there-numbered kept k tree other h e =
+    slice_get-get_or kept k other h ∙ ap Some (sym (unwrap_or-slice_get kept k other) ∙ e)
+
+pub entry_builds : (kept : List Tree) (k : ℕ) (tree : Tree) → slice_get kept k ≡ Some tree → Builds kept tree (leaf (entry (suc k)))
+entry_builds kept k tree e =
+    let h = slice_get_within kept k tree e in
+    record { is_way = (tt, (omega arith, omega (arith, h))); gives = numbered-there kept k tree _ e }
+
+-- a way is an entry alone, or more
+pub record IsEntryWay (kept : List Tree) (tree way : Tree) : Type 0 where
+  pub place : ℕ
+  pub is : way ≡ leaf (entry (suc place))
+  pub there : slice_get kept place ≡ Some tree
+
+entry_or_more : (kept : List Tree) (tree : Tree) (x : Leaf) → Builds kept tree (leaf x) → IsEntryWay kept tree (leaf x) ⊎ Composes kept tree (leaf x)
+entry_or_more kept tree (public a) b = inr (record { builds = b; root = tt })
+entry_or_more kept tree (private n) b = inr (record { builds = b; root = tt })
+entry_or_more kept tree (var n) b = inr (record { builds = b; root = tt })
+entry_or_more kept tree (ax j) b = inr (record { builds = b; root = tt })
+entry_or_more kept tree (rigid n) b = inr (record { builds = b; root = tt })
+entry_or_more kept tree (entry zero) b = absurd (let h = b.is_way.1.0 in omega (arith, h))
+entry_or_more kept tree (entry (suc k)) b =
+    let h = b.is_way.1.1 in
+    inl (record { place = k; is = refl; there = there-numbered kept k tree (leaf (entry (suc k))) (omega (arith, h)) b.gives })
+
+pub entry_or_composed : (kept : List Tree) (tree way : Tree) → Builds kept tree way → IsEntryWay kept tree way ⊎ Composes kept tree way
+entry_or_composed kept tree (leaf x) b = entry_or_more kept tree x b
+entry_or_composed kept tree (app f ts) b = inr (record { builds = b; root = tt })
+
+-- a composed leaf is a public name
+pub leaf_gives : (kept : List Tree) (tree : Tree) (x : Leaf) → Composes kept tree (leaf x) → leaf x ≡ tree
+leaf_gives kept tree (public a) c = c.builds.gives
+leaf_gives kept tree (private n) c = absurd c.builds.is_way.1
+leaf_gives kept tree (var n) c = absurd c.builds.is_way.0
+leaf_gives kept tree (ax j) c = absurd c.builds.is_way.1
+leaf_gives kept tree (entry i) c = absurd c.root
+leaf_gives kept tree (rigid n) c = absurd c.builds.is_way.1
+
+pub composed_leaf : (kept : List Tree) (x : Leaf) (way : Tree) → Composes kept (leaf x) way → way ≡ leaf x
+composed_leaf kept x (leaf y) c = leaf_gives kept (leaf x) y c
+composed_leaf kept x (app f ts) c = let e = c.builds.gives in cc
+
+-- a way that composes a symbol over trees is the symbol over ways
+pub record IsAppWay (kept : List Tree) (f : Sym) (ts : Trees) (way : Tree) : Type 0 where
+  pub arguments : Trees
+  pub is : way ≡ app f arguments
+  pub are_ways : AreWays (length kept) arguments
+  pub give : put_all kept arguments ≡ ts
+
+pub composed_app : (kept : List Tree) (f : Sym) (ts : Trees) (way : Tree) → Composes kept (app f ts) way → IsAppWay kept f ts way
+composed_app kept f ts (leaf x) c = absurd (let e : leaf x ≡ app f ts = leaf_gives kept (app f ts) x c in cc)
+composed_app kept f ts (app g us) c =
+    let e : app g (put_all kept us) ≡ app f ts = c.builds.gives in
+    let m : g ≡ f = cc in
+    record {
+      arguments = us;
+      is = ap (λ s. app s us) m;
+      are_ways = record { closed = c.builds.is_way.0.1; known = c.builds.is_way.1.1 };
+      give = cc;
+    }
+
+-- ways as a list
+pub record AreListedWays (n : ℕ) (ways : List Tree) : Type 0 where
+  pub closed : AreBuiltOf IsNoVariable AnySymbol (trees ways)
+  pub known : AreBuiltOf (IsKnowledgeLeaf AnyName NoRigidName n) AnySymbol (trees ways)
+
+pub no_listed_ways : (n : ℕ) → AreListedWays n []
+no_listed_ways n = record { closed = tt; known = tt }
+
+built_further : (L : Leaf → Type 0) (ts : List Tree) (t : Tree) → AreBuiltOf L AnySymbol (trees ts) → IsBuiltOf L AnySymbol t → AreBuiltOf L AnySymbol (trees (ts ++ t ∷ []))
+built_further L [] t a b = (b, tt)
+built_further L (u ∷ ts) t a b = (a.0, built_further L ts t a.1 b)
+
+pub listed_further : (n : ℕ) (ways : List Tree) (way : Tree) → AreListedWays n ways → IsWay n way → AreListedWays n (ways ++ way ∷ [])
+listed_further n ways way a w = record {
+  closed = built_further IsNoVariable ways way a.closed w.0;
+  known = built_further (IsKnowledgeLeaf AnyName NoRigidName n) ways way a.known w.1;
+}
+
+-- what one more way gives
+pub given_further : (F : Tree → Tree) (ways : List Tree) (way tree : Tree) (ts : List Tree) (i : ℕ) → map F ways ≡ take i ts → slice_get ts i ≡ Some tree → F way ≡ tree → map F (ways ++ way ∷ []) ≡ take (i + 1) ts
+given_further F ways way tree ts i e there m =
+    let h = slice_get_within ts i tree there in
+    let at : get_or ts i tree ≡ tree = get_or_from_slice_get ts i tree tree there in
+    map-append F ways (way ∷ [])
+    ∙ (λ j. e j ++ (m ∙ sym at) j ∷ [])
+    ∙ sym (take_more ts i tree h)
+
+-- the whole of an argument list
+pub all_taken : (F : Tree → Tree) (ways ts : List Tree) (i : ℕ) → map F ways ≡ take i ts → length ts ≤ i → map F ways ≡ ts
+all_taken F ways ts i e h = e ∙ take_all i ts h
+
+pub put_all-trees : (kept ts : List Tree) → put_all kept (trees ts) ≡ trees (map (put_entries kept) ts)
+put_all-trees kept [] = refl
+put_all-trees kept (t ∷ ts) = ap (more (put_entries kept t)) (put_all-trees kept ts)
+
+trees-list_of : (ts : Trees) → trees (list_of ts) ≡ ts
+trees-list_of none = refl
+trees-list_of (more t ts) = ap (more t) (trees-list_of ts)
+
+-- a leaf shows no symbol
+no_app_leaf : (x : Leaf) (f : Sym) → App f ≡ leaf_view x → ⊥
+no_app_leaf (public n) f v = cc
+no_app_leaf (private n) f v = cc
+no_app_leaf (var n) f v = cc
+no_app_leaf (ax n) f v = cc
+no_app_leaf (entry n) f v = cc
+no_app_leaf (rigid n) f v = cc
+
+-- a symbol over ways that build the arguments
+pub composes_app : (kept : List Tree) (f : Sym) (tree : Tree) (ways : List Tree) → App f ≡ view_of tree → AreListedWays (length kept) ways → map (put_entries kept) ways ≡ arguments tree → Composes kept tree (app f (trees ways))
+composes_app kept f (app g ts) ways v a e =
+    let m : f ≡ g = cc in
+    record {
+      builds = record {
+        is_way = ((tt, a.closed), (tt, a.known));
+        gives = (λ i. app (m i) ((put_all-trees kept ways ∙ ap trees e ∙ trees-list_of ts) i));
+      };
+      root = tt;
+    }
+composes_app kept f (leaf x) ways v a e = absurd (no_app_leaf x f v)
+
+-- where an argument is built in no way, the tree is composed in none
+nth_way : (kept : List Tree) (ts ways : Trees) (i : ℕ) (tree : Tree) → AreWays (length kept) ways → put_all kept ways ≡ ts → slice_get (list_of ts) i ≡ Some tree → (way : Tree) × Builds kept tree way
+nth_way kept none none i tree a e d = absurd (none-some tree d)
+nth_way kept (more t ts) (more w ws) zero tree a e d =
+    let m : put_entries kept w ≡ tree = cc in (w, record { is_way = (a.closed.0, a.known.0); gives = m })
+nth_way kept (more t ts) (more w ws) (suc i) tree a e d =
+    let m : put_all kept ws ≡ ts = cc in nth_way kept ts ws i tree (record { closed = a.closed.1; known = a.known.1 }) m d
+nth_way kept _ _ i tree a e d = absurd (let z = e in cc)
+
+pub argument_not_built : (kept : List Tree) (tree argument : Tree) (i : ℕ) → slice_get (arguments tree) i ≡ Some argument → IsNotBuilt kept argument → IsNotComposed kept tree
+argument_not_built kept (leaf x) argument i d nothing way c = absurd (none-some argument d)
+argument_not_built kept (app f ts) argument i d nothing way c =
+    let p = composed_app kept f ts way c in
+    let w = nth_way kept ts p.arguments i argument p.are_ways p.give d in nothing w.0 w.1
+
+-- a leaf that is no public name is composed in no way
+leaf_composed : (kept : List Tree) (x : Leaf) → Composes kept (leaf x) (leaf x) → ((a : PublicName) → Public a ≡ leaf_view x → ⊥) → ⊥
+leaf_composed kept (public a) c h = h a refl
+leaf_composed kept (private n) c h = c.builds.is_way.1
+leaf_composed kept (var n) c h = c.builds.is_way.0
+leaf_composed kept (ax j) c h = c.builds.is_way.1
+leaf_composed kept (entry i) c h = c.root
+leaf_composed kept (rigid n) c h = c.builds.is_way.1
+
+pub leaf_not_composed : (kept : List Tree) (tree : Tree) → ((f : Sym) → App f ≡ view_of tree → ⊥) → ((a : PublicName) → Public a ≡ view_of tree → ⊥) → IsNotComposed kept tree
+leaf_not_composed kept (app f ts) no_symbol no_name way c = no_symbol f refl
+leaf_not_composed kept (leaf x) no_symbol no_name way c =
+    leaf_composed kept x (subst (Composes kept (leaf x)) (composed_leaf kept x way c) c) no_name
+
+-- a symbol over ways builds a tree where the ways build the arguments
+pub put_all-list_of : (kept : List Tree) (ts : Trees) → list_of (put_all kept ts) ≡ map (put_entries kept) (list_of ts)
+put_all-list_of kept none = refl
+put_all-list_of kept (more t ts) = λ i. put_entries kept t ∷ put_all-list_of kept ts i
+
+module _ (kept : List Tree) where
+  pub arguments_built : (way tree : Tree) (f : Sym) → App f ≡ view_of way → put_entries kept way ≡ tree → map (put_entries kept) (arguments way) ≡ arguments tree
+  arguments_built (leaf x) tree f v e = absurd (no_app_leaf x f v)
+  arguments_built (app g ws) tree f v e = sym (put_all-list_of kept ws) ∙ ap arguments e
+
+  pub arities_built : (way tree : Tree) (f : Sym) → App f ≡ view_of way → put_entries kept way ≡ tree → length (arguments way) ≡ length (arguments tree)
+  arities_built way tree f v e = sym (length-map (arguments way) (put_entries kept)) ∙ ap length (arguments_built way tree f v e)
+
+  pub argument_built : (way tree : Tree) (f : Sym) (i : ℕ) (w t : Tree) → App f ≡ view_of way → put_entries kept way ≡ tree → slice_get (arguments way) i ≡ Some w → slice_get (arguments tree) i ≡ Some t → put_entries kept w ≡ t
+  argument_built way tree f i w t v e a b =
+      let there : slice_get (map (put_entries kept) (arguments way)) i ≡ Some (put_entries kept w) = slice_get-map (put_entries kept) (arguments way) i ∙ ap (option_map (put_entries kept)) a in
+      let m : Some (put_entries kept w) ≡ Some t = sym there ∙ ap (λ us. slice_get us i) (arguments_built way tree f v e) ∙ b in cc
+
+  pub whole_built : (way tree : Tree) (f : Sym) → App f ≡ view_of way → App f ≡ view_of tree → map (put_entries kept) (arguments way) ≡ arguments tree → put_entries kept way ≡ tree
+  whole_built (leaf x) tree f v u e = absurd (no_app_leaf x f v)
+  whole_built (app g ws) (leaf x) f v u e = absurd (no_app_leaf x f u)
+  whole_built (app g ws) (app h ts) f v u e =
+      let m : g ≡ h = cc in
+      λ i. app (m i) ((sym (trees-list_of (put_all kept ws)) ∙ ap trees (put_all-list_of kept ws ∙ e) ∙ trees-list_of ts) i)
+
+-- one more argument
+pub alike_further : (F : Tree → Tree) (xs ys : List Tree) (i : ℕ) (x y : Tree) → map F (take i xs) ≡ take i ys → slice_get xs i ≡ Some x → slice_get ys i ≡ Some y → F x ≡ y → map F (take (i + 1) xs) ≡ take (i + 1) ys
+alike_further F xs ys i x y e a b m =
+    let h = slice_get_within xs i x a in
+    let k = slice_get_within ys i y b in
+    let at_x : get_or xs i x ≡ x = get_or_from_slice_get xs i x x a in
+    let at_y : get_or ys i y ≡ y = get_or_from_slice_get ys i y y b in
+    ap (map F) (take_more xs i x h)
+    ∙ map-append F (take i xs) (get_or xs i x ∷ [])
+    ∙ (λ j. e j ++ (ap F at_x ∙ m ∙ sym at_y) j ∷ [])
+    ∙ sym (take_more ys i y k)
+
+pub all_alike_taken : (F : Tree → Tree) (xs ys : List Tree) (i : ℕ) → map F (take i xs) ≡ take i ys → length xs ≤ i → length ys ≤ i → map F xs ≡ ys
+all_alike_taken F xs ys i e h k = ap (map F) (sym (take_all i xs h)) ∙ e ∙ take_all i ys k
+
+-- what a loop over the arguments of a way makes
+pub put_further : (F : Tree → Tree) (made : List Tree) (one way : Tree) (ways : List Tree) (i : ℕ) → made ≡ map F (take i ways) → slice_get ways i ≡ Some way → one ≡ F way → made ++ one ∷ [] ≡ map F (take (i + 1) ways)
+put_further F made one way ways i e there m =
+    let h = slice_get_within ways i way there in
+    let at : get_or ways i way ≡ way = get_or_from_slice_get ways i way way there in
+    (λ j. e j ++ (m ∙ ap F (sym at)) j ∷ [])
+    ∙ sym (map-append F (take i ways) (get_or ways i way ∷ []))
+    ∙ ap (map F) (sym (take_more ways i way h))
+
+pub put_whole : (kept : List Tree) (way : Tree) (f : Sym) (made : List Tree) (i : ℕ) → App f ≡ view_of way → made ≡ map (put_entries kept) (take i (arguments way)) → length (arguments way) ≤ i → app f (trees made) ≡ put_entries kept way
+put_whole kept (leaf x) f made i v e h = absurd (no_app_leaf x f v)
+put_whole kept (app g ws) f made i v e h =
+    let m : f ≡ g = cc in
+    λ j. app (m j) ((ap trees (e ∙ ap (map (put_entries kept)) (take_all i (list_of ws) h) ∙ sym (put_all-list_of kept ws)) ∙ trees-list_of (put_all kept ws)) j)

@@ -1,0 +1,5 @@
+pub mod Ways
+pub mod Follows
+pub mod Passing
+pub mod Handles
+pub mod Answer
