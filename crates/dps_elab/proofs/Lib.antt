@@ -1,0 +1,5 @@
+pub mod Arms
+pub mod Checking
+pub mod Stack
+pub mod Terms
+pub mod Turns

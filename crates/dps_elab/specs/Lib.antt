@@ -1,0 +1,7 @@
+pub mod Answers
+pub mod Expansion
+pub mod Limits
+pub mod Locals
+pub mod Meaning
+pub mod Turns
+pub mod Writing

@@ -1,0 +1,103 @@
+-- What is written within limits on the nodes.
+use Rattle.std.specs.Prelude.{◌≡◌, ◌⊎◌, ℕ, ◌+◌, ◌<◌, ◌≤◌, List, [], ◌∷◌, ◌++◌, Option, Some, None, unwrap_or, false}
+use Rattle.dps_terms.specs.Tree.{Tree, trees, node_count, node_counts}
+use Rattle.dps_process.specs.Process.{Process, size}
+use Rattle.dps_names.specs.Body.{Body, nil}
+use Rattle.dps_names.specs.declared.body.Step.{Step}
+use Rattle.dps_elab.specs.Expansion.{Value, Numbers, Expansion, Expanding, one_variable, taken_apart, expansion_of}
+use Rattle.dps_elab.specs.Limits.{height, heights, process_height, is_too_large}
+use Rattle.dps_elab.specs.Locals.{locals_from}
+use Rattle.dps_elab.specs.Turns.{written_in}
+use Rattle.dps_elab.specs.declared.found.PrivateUse.{PrivateUse}
+use Rattle.dps_elab.specs.declared.found.ChannelUse.{ChannelUse}
+use Rattle.dps_elab.specs.declared.local.Local.{Local}
+use Rattle.dps_elab.specs.declared.local.Local.TheVariants.{Variable}
+use Rattle.dps_elab.specs.declared.settle.Scope.{Scope}
+use Rattle.dps_elab.specs.declared.writer.Writer.{Writer}
+
+-- The numbers that come next.
+abbrev pub numbers_of : Writer → Numbers
+numbers_of writer = record { variable = writer.variable; name = writer.name }
+
+-- What is found was added behind what had been found, `next` are the numbers that come next, and so many nodes were taken
+-- from those that were left.
+pub record IsAdded (old new : Writer) (channels : List ChannelUse) (privates : List PrivateUse) (next : Numbers) (nodes : ℕ) : Type 0 where
+  pub channels_then : new.channels.items ≡ old.channels.items ++ channels
+  pub privates_then : new.privates.items ≡ old.privates.items ++ privates
+  pub numbers : numbers_of new ≡ next
+  pub taken : new.room + nodes ≡ old.room
+
+-- A process was written: it is the expansion's, and what the expansion adds was added. What is on the stack then is `left`.
+pub record IsWritten (old new : Writer) (depth : ℕ) (left : List Local) (e : Expansion) (p : Process) : Type 0 where
+  pub same : p ≡ e.process
+  pub stack : new.stack.items ≡ left
+  pub added : IsAdded old new e.channels e.privates e.next (size e.process)
+  pub low : process_height e.process ≤ depth
+
+-- A side was written.
+pub record IsSideWritten (old new : Writer) (e : Expansion) (p : Process) : Type 0 where
+  pub same : p ≡ e.process
+  pub stack : new.stack.items ≡ []
+  pub channels_then : new.channels.items ≡ old.channels.items ++ e.channels
+  pub privates_then : new.privates.items ≡ old.privates.items ++ e.privates
+  pub numbers : numbers_of new ≡ e.next
+  pub fits : is_too_large e.process ≡ false
+
+-- a term was built, and its private names were added
+pub record IsTermWritten (old new : Writer) (depth : ℕ) (value : Value) (t : Tree) : Type 0 where
+  pub same : t ≡ value.tree
+  pub stack : new.stack.items ≡ old.stack.items
+  pub added : IsAdded old new [] value.privates (numbers_of old) (node_count value.tree)
+  pub low : height value.tree ≤ depth
+
+-- a channel was added
+pub record IsChannelAdded (old new : Writer) (channel : ChannelUse) (number : ℕ) : Type 0 where
+  pub number_is : number ≡ unwrap_or channel.name 0
+  pub stack : new.stack.items ≡ old.stack.items
+  pub added : IsAdded old new (channel ∷ []) [] (numbers_of old) 0
+
+-- the next variable is the next local
+pub record IsVariablePushed (old new : Writer) (variable : ℕ) : Type 0 where
+  pub variable_is : variable ≡ old.variable
+  pub stack : new.stack.items ≡ old.stack.items ++ Variable variable ∷ []
+  pub added : IsAdded old new [] [] (one_variable (numbers_of old)) 0
+
+-- a node was taken
+pub record IsNodeTaken (old new : Writer) (depth below : ℕ) : Type 0 where
+  pub deeper : below + 1 ≡ depth
+  pub stack : new.stack.items ≡ old.stack.items
+  pub added : IsAdded old new [] [] (numbers_of old) 1
+
+-- Too many nodes for those that are left, or too many on a path.
+abbrev pub IsTooLargeTerm : ℕ → ℕ → Tree → Type 0
+IsTooLargeTerm room depth t = (room < node_count t) ⊎ (depth < height t)
+
+abbrev pub AreTooLarge : ℕ → ℕ → List Tree → Type 0
+AreTooLarge room depth ts = (room < node_counts (trees ts)) ⊎ (depth < heights (trees ts))
+
+abbrev pub IsTooLargeSide : ℕ → ℕ → Process → Type 0
+IsTooLargeSide room depth p = (room < size p) ⊎ (depth < process_height p)
+
+-- A term was built: its nodes were taken from those that were left, and no path has more than `depth` of them.
+pub record IsBuilt (room left depth : ℕ) (t built : Tree) : Type 0 where
+  pub same : built ≡ t
+  pub nodes : left + node_count t ≡ room
+  pub low : height t ≤ depth
+
+-- the same of arguments
+pub record AreBuilt (room left depth : ℕ) (ts built : List Tree) : Type 0 where
+  pub same : built ≡ ts
+  pub nodes : left + node_counts (trees ts) ≡ room
+  pub low : heights (trees ts) ≤ depth
+
+-- the body that a value that does not fit goes on with
+abbrev pub other_body : Option Body → Body
+other_body (Some p) = p
+other_body None = nil
+
+-- what takes a value apart: the locals outside the pattern are those below `outside` on the stack
+abbrev pub taken_apart_in : Scope → List Local → List Step → Body → Body → List Local → Expanding
+taken_apart_in scope stack steps fits other outside =
+    taken_apart scope.private_names.now steps (locals_from scope.first stack)
+    (expansion_of scope.private_names.now scope.definitions.now fits)
+    (written_in scope outside other)

@@ -1,0 +1,179 @@
+//! Terms with what their locals stand for, built within the limits of a side.
+ghost use Rattle.std.specs.Prelude.{◌≡◌, ◌⊎◌, ◌+◌, ◌≤◌, ◌++◌, ◌∷◌, [], vec_len, map, IfOk, OnOk};
+ghost use Rattle.dps_terms.specs.Tree.{Tree, app, trees};
+ghost use Rattle.dps_terms.specs.Seen.{seen};
+ghost use Rattle.dps_terms.specs.Views.{view_of, arguments};
+ghost use Rattle.dps_elab.specs.Expansion.{value_at, tree_in, privates_of, declared_name};
+ghost use Rattle.dps_elab.specs.Locals.{in_frame, values};
+ghost use Rattle.dps_elab.specs.Writing.{IsBuilt, IsTooLargeTerm, AreBuilt, AreTooLarge};
+
+use crate::local::{Frame, Local, local_at};
+use crate::{PrivateUse, Stop};
+use dps_names::Use;
+use dps_terms::{NoMemory, PublicName, Sym, Term, TermRef, TermView};
+use std::alloc::{AllocError, Global};
+
+/// Takes one node from those that are left, and says how many may be on a path behind it.
+pub(crate) fn take_node(room: &mut u32, depth: u32) -> Result<u32, Stop>
+    ensures ok { IfOk result (λ left. (left + 1 ≡ depth) × (room.new + 1 ≡ room.old)) }
+    ensures large { result ≡ Err Stop.TooLarge → (room.old ≡ 0) ⊎ (depth ≡ 0) }
+{
+    if *room == 0 {
+        return Err(Stop::TooLarge);
+    }
+    if depth == 0 {
+        return Err(Stop::TooLarge);
+    }
+    *room -= 1;
+    Ok(depth - 1)
+}
+
+/// The term with what the locals of the frame stand for. Its nodes are taken from those that are left, and no path may
+/// have more than `depth` of them.
+#[cycle(build)]
+pub(crate) fn build(
+    alloc: Global,
+    stack: &[Local<'_>],
+    frame: Frame,
+    term: TermRef<'_>,
+    room: &mut u32,
+    depth: u32,
+) -> Result<Term, Stop>
+    ensures ok { IfOk result (λ t. IsBuilt room.old room.new depth (tree_in (in_frame (values stack.now) frame) (seen term.entry)) t) }
+    ensures large { result ≡ Err Stop.TooLarge → IsTooLargeTerm room.old depth (tree_in (in_frame (values stack.now) frame) (seen term.entry)) }
+{
+    match term.view() {
+        TermView::Var(number) => build_local(alloc, stack, frame, number as usize, room, depth),
+        TermView::App(sym) => {
+            let depth = take_node(room, depth)?;
+            let arguments = build_arguments(alloc, stack, frame, term, room, depth)?;
+            let built = Term::app(alloc, sym, arguments)?;
+            Ok(built)
+        }
+        _ => {
+            take_node(room, depth)?;
+            let built = term.copy(alloc)?;
+            Ok(built)
+        }
+    }
+}
+
+/// The arguments of the term's root.
+#[cycle(build)]
+fn build_arguments(
+    alloc: Global,
+    stack: &[Local<'_>],
+    frame: Frame,
+    term: TermRef<'_>,
+    room: &mut u32,
+    depth: u32,
+) -> Result<Vec<Term>, Stop>
+    ensures ok { IfOk result (λ v. AreBuilt room.old room.new depth (map (tree_in (in_frame (values stack.now) frame)) (arguments (seen term.entry))) v.items) }
+    ensures few { IfOk result (λ v. vec_len v ≤ 8) }
+    ensures large { result ≡ Err Stop.TooLarge → AreTooLarge room.old depth (map (tree_in (in_frame (values stack.now) frame)) (arguments (seen term.entry))) }
+{
+    let mut arguments = Vec::new(alloc);
+    for index in 0..term.arity() {
+        let argument = build(alloc, stack, frame, term.argument(index), room, depth)?;
+        arguments.push(argument)?;
+    }
+    Ok(arguments)
+}
+
+/// What the local with this number stands for.
+#[cycle(build)]
+pub(crate) fn build_local(
+    alloc: Global,
+    stack: &[Local<'_>],
+    frame: Frame,
+    number: usize,
+    room: &mut u32,
+    depth: u32,
+) -> Result<Term, Stop>
+    ensures ok { IfOk result (λ t. IsBuilt room.old room.new depth ((value_at (in_frame (values stack.now) frame) number).tree) t) }
+    ensures large { result ≡ Err Stop.TooLarge → IsTooLargeTerm room.old depth ((value_at (in_frame (values stack.now) frame) number).tree) }
+{
+    match local_at(stack, frame, number) {
+        Local::Variable(variable) => {
+            take_node(room, depth)?;
+            let built = Term::var(alloc, variable)?;
+            Ok(built)
+        }
+        Local::Name(name) => {
+            take_node(room, depth)?;
+            let built = Term::private(alloc, name)?;
+            Ok(built)
+        }
+        Local::Argument(written, outer) => {
+            build(alloc, stack, outer, written.tree.whole(), room, depth)
+        }
+    }
+}
+
+/// The projection of what the local with this number stands for.
+pub(crate) fn build_projection(
+    alloc: Global,
+    stack: &[Local<'_>],
+    frame: Frame,
+    projection: Sym,
+    number: usize,
+    room: &mut u32,
+    depth: u32,
+) -> Result<Term, Stop>
+    ensures ok { IfOk result (λ t. IsBuilt room.old room.new depth (app projection (trees ((value_at (in_frame (values stack.now) frame) number).tree ∷ []))) t) }
+    ensures large { result ≡ Err Stop.TooLarge → IsTooLargeTerm room.old depth (app projection (trees ((value_at (in_frame (values stack.now) frame) number).tree ∷ []))) }
+{
+    let depth = take_node(room, depth)?;
+    let value = build_local(alloc, stack, frame, number, room, depth)?;
+    let mut arguments = Vec::new(alloc);
+    arguments.push(value)?;
+    let built = Term::app(alloc, projection, arguments)?;
+    Ok(built)
+}
+
+/// Adds the private names of a term, in text order.
+pub(crate) fn add_privates(
+    stack: &[Local<'_>],
+    frame: Frame,
+    uses: &[Use],
+    found: &mut Vec<PrivateUse>,
+) -> Result<(), NoMemory>
+    ensures { OnOk result (found.new.items ≡ found.old.items ++ privates_of (in_frame (values stack.now) frame) uses.now) }
+{
+    for item in uses {
+        match *item {
+            Use::PrivateName(name, place) => found.push(PrivateUse { name, place })?,
+            Use::Local(number) => {
+                if let Local::Argument(written, outer) = local_at(stack, frame, number) {
+                    add_privates(stack, outer, written.uses.as_slice(), found)?;
+                }
+            }
+        }
+    }
+    Ok(())
+}
+
+/// The root of the term with what the locals of the frame stand for.
+pub(crate) fn root(stack: &[Local<'_>], frame: Frame, term: TermRef<'_>) -> TermView
+    ensures { result ≡ view_of (tree_in (in_frame (values stack.now) frame) (seen term.entry)) }
+{
+    match term.view() {
+        TermView::Var(number) => match local_at(stack, frame, number as usize) {
+            Local::Variable(variable) => TermView::Var(variable),
+            Local::Name(name) => TermView::Private(name),
+            Local::Argument(written, outer) => root(stack, outer, written.tree.whole()),
+        },
+        view => view,
+    }
+}
+
+/// The declared name that has this root, by its number, if one does.
+pub(crate) fn declared_name(private_names: &[u32], root: TermView) -> Option<u32>
+    ensures { (t : Tree) → root ≡ view_of t → result ≡ declared_name private_names.now t }
+{
+    match root {
+        TermView::Public(PublicName::Declared(number)) => Some(number),
+        TermView::Private(index) => private_names.get(index as usize).copied(),
+        _ => None,
+    }
+}

@@ -1,0 +1,14 @@
+pub mod Written
+pub mod Body
+pub mod Program
+pub mod Nodes
+pub mod Deeper
+pub mod Views
+pub mod Stored
+pub mod StoredBody
+pub mod StoredProgram
+pub mod Scopes
+pub mod Terms
+pub mod Rules
+pub mod Processes
+pub mod Declarations

@@ -1,0 +1,15 @@
+//! What a file says, with its names looked up, or the first fault of its names.
+//!
+//! `specs/Program.antt` has what a file says: a signature, rules, and processes in which a name is no text any more.
+//! `specs/Declarations.antt` has the program of a list of declarations, or the first fault of its names.
+#![tactic(auto)]
+
+mod body;
+mod fault;
+mod program;
+mod written;
+
+pub use body::{Body, BodyView, Channel, Step};
+pub use fault::{NameCause, NameFault};
+pub use program::{Definition, Program, Side, WrittenRule};
+pub use written::{Use, Written};
