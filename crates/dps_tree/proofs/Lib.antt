@@ -1,0 +1,13 @@
+pub mod PlainParts
+pub mod Plays
+pub mod PlainRuns
+pub mod Holding
+pub mod Followers
+pub mod Matchings
+pub mod Orders
+pub mod Continuing
+pub mod PlainSides
+pub mod Branching
+pub mod Pending
+pub mod Weighing
+pub mod Constructors
