@@ -8,6 +8,7 @@ mod build;
 mod expanding;
 mod fault;
 mod found;
+pub mod laws;
 mod local;
 mod settle;
 mod stop;
