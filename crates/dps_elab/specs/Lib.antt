@@ -3,6 +3,5 @@ pub mod Expansion
 pub mod Limits
 pub mod Locals
 pub mod Meaning
-pub mod NotBuilt
 pub mod Turns
 pub mod Writing

@@ -12,11 +12,9 @@ pub mod laws;
 mod local;
 mod settle;
 mod stop;
-mod unbuilt;
 mod writer;
 
 pub use expanding::{Sides, expand};
 pub use fault::{ExpandRefusal, ExpansionCause, ExpansionFault};
 pub use found::{ChannelUse, PrivateUse};
 pub(crate) use stop::Stop;
-pub use unbuilt::first_unbuilt;
