@@ -1,0 +1,11 @@
+pub mod Places
+pub mod Numbers
+pub mod Signatures
+pub mod Rows
+pub mod Identifiers
+pub mod Members
+pub mod Applying
+pub mod Listing
+pub mod Chains
+pub mod Shaping
+pub mod Processing

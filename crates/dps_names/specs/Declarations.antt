@@ -1,17 +1,19 @@
 -- Declarations and files, with their names looked up.
-use Rattle.std.specs.Prelude.{ℕ, Bool, false, ◌||◌, nat_le, if◌then◌else◌, List, [], ◌∷◌, ◌++◌, length}
+use Rattle.std.specs.Prelude.{ℕ, Bool, false, ◌||◌, nat_le, if◌then◌else◌, List, [], ◌∷◌, ◌++◌, length, Option, Some, None}
 use Rattle.dps_lex.specs.declared.vocabulary.Place.{Place}
 use Rattle.dps_lex.specs.declared.vocabulary.TokenKind.TheVariants as kinds
 use Rattle.dps_terms.specs.declared.SymKind.TheVariants.{Constructor}
 use Rattle.dps_terms.specs.Signature.{Signature}
 use Rattle.dps_terms.specs.Names.{with_symbol, with_name}
-use Rattle.dps_syntax.specs.Tree.{Lexeme, Parts, none as no_parts, token, inner, lexemes}
+use Rattle.dps_syntax.specs.Tree.{Lexeme, Parts, none as no_parts, token, inner}
 use Rattle.dps_syntax.specs.declared.tree.Decl.{Decl}
 use Rattle.dps_syntax.specs.declared.tree.Decl.TheVariants.{Free, Const, Fun, Reduc, Define, Query}
 use Rattle.dps_names.specs.declared.fault.NameCause.TheVariants.{NameTwice, ReservedName, LargeArity}
 use Rattle.dps_names.specs.declared.program.Side.{Side}
 use Rattle.dps_names.specs.Program.{Program, Definition, WrittenRule, Body, nowhere, empty, parallel}
-use Rattle.dps_names.specs.Scopes.{Outcome, done, faulty, and_then, fault_at, place_of, most_arguments, is_reserved, declared_meaning, is_unknown}
+use Rattle.dps_names.specs.Faults.{place_of}
+use Rattle.dps_names.specs.Outcome.{Outcome, done, faulty, and_then, fault_at}
+use Rattle.dps_names.specs.Scopes.{Locals, most_arguments, is_reserved, declared_meaning, is_unknown}
 use Rattle.dps_names.specs.Terms.{is_kind}
 use Rattle.dps_names.specs.Rules.{rule}
 use Rattle.dps_names.specs.Processes.{number_of, is_among, joined, parallels}
@@ -88,40 +90,49 @@ rules no_parts program = done tt program
 rules (token lexeme parts) program = rules parts program
 rules (inner p inside parts) program = and_then (rule_in program inside) (λ u after. rules parts after)
 
--- The texts of parameters, the innermost local first. None stands twice.
+-- The texts of parameters. None stands twice.
 abbrev pub parameters : Parts → List (List ℕ) → Program → Outcome Program (List (List ℕ))
-parameters no_parts scope program = done scope program
-parameters (inner p inside parts) scope program = parameters parts scope program
-parameters (token lexeme parts) scope program =
+parameters no_parts texts program = done texts program
+parameters (inner p inside parts) texts program = parameters parts texts program
+parameters (token lexeme parts) texts program =
     if is_kind kinds.Identifier lexeme
-    then (if is_among lexeme.text scope then fault_at NameTwice lexeme else parameters parts (lexeme.text ∷ scope) program)
-    else parameters parts scope program
+    then (if is_among lexeme.text texts then fault_at NameTwice lexeme else parameters parts (texts ++ lexeme.text ∷ []) program)
+    else parameters parts texts program
 
 -- Par, as one process
-abbrev pub body_of : Parts → List (List ℕ) → Program → Outcome Program Body
+abbrev pub body_of : Parts → Locals → Program → Outcome Program Body
 body_of parts scope program =
-    and_then (in_signature program (parallels program.definitions parts scope program.signature)) (λ ps after. done (joined parallel ps) after)
+    and_then (in_signature program (parallels program.definitions scope parts program.signature)) (λ ps after. done (joined parallel ps) after)
 
 abbrev pub define_with : Lexeme → List (List ℕ) → Parts → Program → Known
-define_with name scope inside program =
-    and_then (body_of inside scope program) (λ body after.
-    done tt (with_definition after (record { name = name.text; parameters = length scope; body = body })))
+define_with name texts inside program =
+    and_then (body_of inside (texts ∷ []) program) (λ body after.
+    done tt (with_definition after (record { name = name.text; parameters = length texts; body = body })))
 
 -- "let" id [ "(" Ids ")" ] "=" Par "."
 abbrev pub define : Parts → Program → Known
 define (token word (token name (token bracket (inner p ids (token close (token equals (inner q inside parts))))))) program =
-    and_then (declaring name program) (λ u next. and_then (parameters ids [] next) (λ scope after. define_with name scope inside after))
+    and_then (declaring name program) (λ u next. and_then (parameters ids [] next) (λ texts after. define_with name texts inside after))
 define (token word (token name (token equals (inner p inside parts)))) program =
     and_then (declaring name program) (λ u after. define_with name [] inside after)
 define _ program = done tt program
 
--- where the first token stands
-abbrev pub first_place : List Lexeme → Place
-first_place [] = nowhere
-first_place (lexeme ∷ lexemes) = place_of lexeme
+-- the first token, and where it stands
+abbrev pub earlier : Option Lexeme → Option Lexeme → Option Lexeme
+earlier (Some lexeme) other = Some lexeme
+earlier None other = other
+
+abbrev pub first_lexeme : Parts → Option Lexeme
+first_lexeme no_parts = None
+first_lexeme (token lexeme parts) = Some lexeme
+first_lexeme (inner p inside parts) = earlier (first_lexeme inside) (first_lexeme parts)
+
+abbrev pub first_place : Option Lexeme → Place
+first_place None = nowhere
+first_place (Some lexeme) = place_of lexeme
 
 abbrev pub side : Parts → Program → Outcome Program Side
-side parts program = and_then (body_of parts [] program) (λ body after. done (record { body = body; place = first_place (lexemes parts) }) after)
+side parts program = and_then (body_of parts [] program) (λ body after. done (record { body = body; place = first_place (first_lexeme parts) }) after)
 
 -- "query" "trace_equiv" "(" Par "," Par ")" "."
 abbrev pub query : Parts → Program → Known

@@ -7,8 +7,14 @@ pub mod Views
 pub mod Stored
 pub mod StoredBody
 pub mod StoredProgram
+pub mod Faults
+pub mod Outcome
 pub mod Scopes
+pub mod Blocks
 pub mod Terms
 pub mod Rules
+pub mod Starts
 pub mod Processes
+pub mod StoredPattern
 pub mod Declarations
+pub mod Shapes

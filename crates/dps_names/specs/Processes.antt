@@ -1,8 +1,6 @@
 -- Patterns and processes, with their names looked up. Each function reads the parts of one production.
-use Rattle.std.specs.Prelude.{ℕ, ◌+◌, ◌-◌, Bool, true, false, ◌&&◌, ◌==◌, nat_le, if◌then◌else◌, List, [], ◌∷◌, ◌++◌, length, take}
-use Rattle.std.specs.List.{list_any}
-use Rattle.std.specs.Str.{bytes_eq}
-use Rattle.std.specs.Str.Parse.{digits_value}
+use Rattle.std.specs.Prelude.{ℕ, ◌+◌, ◌-◌, ◌*◌, Bool, true, false, ◌&&◌, ◌==◌, nat_le, if◌then◌else◌, List, [], ◌∷◌, ◌++◌, length, position, is_some}
+use Rattle.std.specs.Str.{byte, bytes_eq}
 use Rattle.dps_lex.specs.declared.vocabulary.TokenKind.TheVariants as kinds
 use Rattle.dps_terms.specs.declared.Sym.{Sym}
 use Rattle.dps_terms.specs.Signature.{Signature}
@@ -11,22 +9,31 @@ use Rattle.dps_names.specs.declared.fault.NameCause.TheVariants.{NameTwice, Unkn
 use Rattle.dps_names.specs.declared.body.Channel.{Channel}
 use Rattle.dps_names.specs.declared.body.Step.{Step}
 use Rattle.dps_names.specs.declared.body.Step.TheVariants.{Project, Test}
-use Rattle.dps_names.specs.Program.{Written, Body, Bodies, nil, parallel, choice, copies, fresh, input, output, conditional, bind, call, none, more, Definition}
-use Rattle.dps_names.specs.Scopes.{Outcome, done, and_then, fault_at, place_of, most_arguments, with_tuple, Meaning, a_local, a_name, a_function, a_process, a_projection, unknown, meaning}
+use Rattle.dps_names.specs.Program.{Written, Body, Bodies, nil, parallel, choice, copies, fresh, input, output, conditional, bind, call, bodies, Definition}
+use Rattle.dps_names.specs.declared.meaning.Meaning.{Meaning}
+use Rattle.dps_names.specs.declared.meaning.Meaning.TheVariants.{Local as a_local, Name as a_name, Function as a_function, Process as a_process, Projection as a_projection, Unknown as unknown}
+use Rattle.dps_names.specs.Faults.{place_of}
+use Rattle.dps_names.specs.Starts.{start_of, by_start}
+use Rattle.dps_names.specs.Outcome.{Outcome, done, and_then, fault_at}
+use Rattle.dps_names.specs.Scopes.{Locals, local_count, most_arguments, with_tuple, meaning}
 use Rattle.dps_names.specs.Terms.{is_kind, count_inner, term, terms, identifier}
 
--- What a pattern says: steps, in order, and the locals behind it.
+-- What a pattern says: steps, in order, and the texts of the locals that it makes.
 pub record Pattern : Type 0 where
   pub steps : List Step
-  pub scope : List (List ℕ)
+  pub names : List (List ℕ)
 
--- the value of a number's text
+-- the value of a number's text, which is decimal digits
+abbrev pub value_behind : ℕ → List ℕ → ℕ
+value_behind n [] = n
+value_behind n (b ∷ bs) = value_behind (n * 10 + (b - byte "0")) bs
+
 abbrev pub number_of : Lexeme → ℕ
-number_of lexeme = digits_value 10 lexeme.text
+number_of lexeme = value_behind 0 lexeme.text
 
--- the text stands among the locals that the pattern has named
+-- the text stands among these
 abbrev pub is_among : List ℕ → List (List ℕ) → Bool
-is_among text names = list_any (bytes_eq text) names
+is_among text texts = is_some (position (bytes_eq text) texts)
 
 -- the copies that `!^n` may ask for
 abbrev pub most_copies : ℕ
@@ -36,26 +43,30 @@ most_copies = 64
 abbrev pub projection_symbol : ℕ → ℕ → Sym
 projection_symbol tuple i = record { number = tuple + i }
 
--- The value that a pattern takes apart is the next local. It has no text, but where the pattern is a name.
-abbrev pub unnamed : Pattern → Pattern
-unnamed so_far = record { steps = so_far.steps; scope = [] ∷ so_far.scope }
-
+-- One more local. The value that a pattern takes apart has no text, but where the pattern is a name.
 abbrev pub with_name : Pattern → List ℕ → Pattern
-with_name so_far text = record { steps = so_far.steps; scope = text ∷ so_far.scope }
+with_name so_far text = record { steps = so_far.steps; names = so_far.names ++ text ∷ [] }
+
+abbrev pub unnamed : Pattern → Pattern
+unnamed so_far = with_name so_far []
 
 abbrev pub with_step : Pattern → Step → Pattern
-with_step so_far step = record { steps = so_far.steps ++ step ∷ []; scope = so_far.scope }
+with_step so_far step = record { steps = so_far.steps ++ step ∷ []; names = so_far.names }
 
--- A variable: the pattern has not named it before. What it has named stands in front of the locals outside it.
-abbrev pub variable : List (List ℕ) → Lexeme → Pattern → Signature → Outcome Signature Pattern
-variable outside lexeme so_far signature =
-    if is_among lexeme.text (take (length so_far.scope - length outside) so_far.scope) then fault_at NameTwice lexeme
+-- the number of the next local, behind those outside the pattern
+abbrev pub next_local : Locals → Pattern → ℕ
+next_local outside so_far = local_count outside + length so_far.names
+
+-- A variable: the pattern has not named it before.
+abbrev pub variable : {S : Type 0} → Lexeme → Pattern → S → Outcome S Pattern
+variable lexeme so_far signature =
+    if is_among lexeme.text so_far.names then fault_at NameTwice lexeme
     else done (with_name so_far lexeme.text) signature
 
--- a tuple of so many members
+-- A tuple of so many members, of which a pattern has at least two; `members` reads them.
 abbrev pub tuple_pattern : Lexeme → ℕ → (ℕ → Signature → Outcome Signature Pattern) → Signature → Outcome Signature Pattern
 tuple_pattern lexeme count members signature =
-    if nat_le count most_arguments
+    if nat_le 2 count && nat_le count most_arguments
     then (let tuple = with_tuple signature count in members tuple.symbol tuple.signature)
     else fault_at LargeArity lexeme
 
@@ -73,27 +84,32 @@ call_as lexeme count arguments (a_projection projection) = fault_at WrongKind le
 call_as lexeme count arguments unknown = fault_at UnknownName lexeme
 
 -- one process is itself, and several are joined
-abbrev pub joined : (Bodies → Body) → Bodies → Body
-joined join none = nil
-joined join (more p none) = p
-joined join (more p (more q ps)) = join (more p (more q ps))
+abbrev pub joined : (Bodies → Body) → List Body → Body
+joined join [] = nil
+joined join (p ∷ []) = p
+joined join (p ∷ q ∷ ps) = join (bodies (p ∷ q ∷ ps))
 
 abbrev pub is_number_of_copies : Lexeme → Bool
 is_number_of_copies number = nat_le 1 (number_of number) && nat_le (number_of number) most_copies
 
 module _ (definitions : List Definition) where
   -- A pattern, with the locals outside it, in which its terms are looked up.
-  module _ (outside : List (List ℕ)) where
+  module _ (outside : Locals) where
+    -- "=" Term: the value is the term
+    abbrev pub tested : Parts → Pattern → Signature → Outcome Signature Pattern
+    tested parts so_far signature =
+        and_then (term definitions outside parts signature) (λ w after.
+        done (with_step (unnamed so_far) (Test (next_local outside so_far) w)) after)
+
     abbrev mutual
       -- Pattern = id | "=" Term | "(" Pattern "," Pattern { "," Pattern } ")"
       pub pattern : Parts → Pattern → Signature → Outcome Signature Pattern
       pattern no_parts so_far signature = done so_far signature
       pattern (inner p inside parts) so_far signature = done so_far signature
       pattern (token lexeme parts) so_far signature =
-          if is_kind kinds.Identifier lexeme then variable outside lexeme so_far signature
-          else (if is_kind kinds.Equals lexeme
-          then and_then (term definitions outside parts signature) (λ w after. done (with_step (unnamed so_far) (Test (length so_far.scope) w)) after)
-          else tuple_pattern lexeme (count_inner parts) (λ symbol after. members parts symbol (length so_far.scope) 1 (unnamed so_far) after) signature)
+          if is_kind kinds.Identifier lexeme then variable lexeme so_far signature
+          else (if is_kind kinds.Equals lexeme then tested parts so_far signature
+          else tuple_pattern lexeme (count_inner parts) (λ symbol after. members parts symbol (next_local outside so_far) 1 (unnamed so_far) after) signature)
 
       -- The members of the tuple that is the local `from`, from the i-th on.
       pub members : Parts → ℕ → ℕ → ℕ → Pattern → Signature → Outcome Signature Pattern
@@ -104,104 +120,105 @@ module _ (definitions : List Definition) where
           members parts symbol from (i + 1) next after)
 
   -- the pattern that stands first in the parts
-  abbrev pub pattern_in : List (List ℕ) → Parts → Signature → Outcome Signature Pattern
-  pattern_in scope parts signature = pattern scope parts (record { steps = []; scope = scope }) signature
+  abbrev pub pattern_in : Locals → Parts → Signature → Outcome Signature Pattern
+  pattern_in scope parts signature = pattern scope parts (record { steps = []; names = [] }) signature
 
-  abbrev pub channel : List (List ℕ) → Lexeme → Signature → Outcome Signature Channel
+  abbrev pub channel : Locals → Lexeme → Signature → Outcome Signature Channel
   channel scope lexeme signature =
       and_then (identifier definitions scope lexeme signature) (λ w after. done (record { tree = w.tree; place = place_of lexeme }) after)
 
   abbrev mutual
     -- Par = Sum { "|" Sum }: the processes between the signs
-    pub parallels : Parts → List (List ℕ) → Signature → Outcome Signature Bodies
-    parallels no_parts scope signature = done none signature
-    parallels (token lexeme parts) scope signature = parallels parts scope signature
-    parallels (inner p inside parts) scope signature =
-        and_then (choices inside scope signature) (λ ps after.
-        and_then (parallels parts scope after) (λ qs last. done (more (joined choice ps) qs) last))
+    pub parallels : Locals → Parts → Signature → Outcome Signature (List Body)
+    parallels scope no_parts signature = done [] signature
+    parallels scope (token lexeme parts) signature = parallels scope parts signature
+    parallels scope (inner p inside parts) signature =
+        and_then (choices scope inside signature) (λ ps after.
+        and_then (parallels scope parts after) (λ qs last. done (joined choice ps ∷ qs) last))
 
     -- Sum = Pre { "+" Pre }
-    pub choices : Parts → List (List ℕ) → Signature → Outcome Signature Bodies
-    choices no_parts scope signature = done none signature
-    choices (token lexeme parts) scope signature = choices parts scope signature
-    choices (inner p inside parts) scope signature =
-        and_then (process inside scope signature) (λ q after.
-        and_then (choices parts scope after) (λ qs last. done (more q qs) last))
+    pub choices : Locals → Parts → Signature → Outcome Signature (List Body)
+    choices scope no_parts signature = done [] signature
+    choices scope (token lexeme parts) signature = choices scope parts signature
+    choices scope (inner p inside parts) signature =
+        and_then (process scope inside signature) (λ q after.
+        and_then (choices scope parts after) (λ qs last. done (q ∷ qs) last))
 
     -- Pre, by the token that it begins with
-    pub process : Parts → List (List ℕ) → Signature → Outcome Signature Body
-    process no_parts scope signature = done nil signature
-    process (inner p inside parts) scope signature = done nil signature
-    process (token first parts) scope signature =
-        if is_kind kinds.Identifier first then call_as first (count_inner parts) (terms definitions scope parts signature) (meaning signature definitions scope first.text)
-        else (if is_kind kinds.OpenParenthesis first then grouped parts scope signature
-        else (if is_kind kinds.Bang first then repeated parts scope signature
-        else (if is_kind kinds.New first then restricted parts scope signature
-        else (if is_kind kinds.In first then received parts scope signature
-        else (if is_kind kinds.Out first then sent parts scope signature
-        else (if is_kind kinds.If first then compared parts scope signature
-        else (if is_kind kinds.Let first then matched parts scope signature
-        else done nil signature)))))))
+    pub process : Locals → Parts → Signature → Outcome Signature Body
+    process scope no_parts signature = done nil signature
+    process scope (inner p inside parts) signature = done nil signature
+    process scope (token first parts) signature =
+        by_start (start_of first.kind)
+        (call_as first (count_inner parts) (terms definitions scope parts signature) (meaning signature definitions scope first.text))
+        (grouped scope parts signature)
+        (repeated scope parts signature)
+        (restricted scope parts signature)
+        (received scope parts signature)
+        (sent scope parts signature)
+        (compared scope parts signature)
+        (matched scope parts signature)
+        (done nil signature)
 
     -- "(" Par ")"
-    pub grouped : Parts → List (List ℕ) → Signature → Outcome Signature Body
-    grouped (inner p inside parts) scope signature =
-        and_then (parallels inside scope signature) (λ ps after. done (joined parallel ps) after)
-    grouped _ scope signature = done nil signature
+    pub grouped : Locals → Parts → Signature → Outcome Signature Body
+    grouped scope (inner p inside parts) signature =
+        and_then (parallels scope inside signature) (λ ps after. done (joined parallel ps) after)
+    grouped scope _ signature = done nil signature
 
     -- "!" "^" number Pre
-    pub repeated : Parts → List (List ℕ) → Signature → Outcome Signature Body
-    repeated (token caret (token number (inner p inside parts))) scope signature =
+    pub repeated : Locals → Parts → Signature → Outcome Signature Body
+    repeated scope (token caret (token number (inner p inside parts))) signature =
         if is_number_of_copies number
-        then and_then (process inside scope signature) (λ q after. done (copies (number_of number) q) after)
+        then and_then (process scope inside signature) (λ q after. done (copies (number_of number) q) after)
         else fault_at BadCopies number
-    repeated _ scope signature = done nil signature
+    repeated scope _ signature = done nil signature
 
     -- "new" id ";" Pre
-    pub restricted : Parts → List (List ℕ) → Signature → Outcome Signature Body
-    restricted (token name (token semicolon (inner p inside parts))) scope signature =
-        and_then (process inside (name.text ∷ scope) signature) (λ q after. done (fresh q) after)
-    restricted _ scope signature = done nil signature
+    pub restricted : Locals → Parts → Signature → Outcome Signature Body
+    restricted scope (token name (token semicolon (inner p inside parts))) signature =
+        and_then (process ((name.text ∷ []) ∷ scope) inside signature) (λ q after. done (fresh q) after)
+    restricted scope _ signature = done nil signature
 
     -- "in" "(" id "," Pattern ")" [ ";" Pre ]
-    pub received : Parts → List (List ℕ) → Signature → Outcome Signature Body
-    received (token bracket (token name (token comma (inner p inside (token close parts))))) scope signature =
+    pub received : Locals → Parts → Signature → Outcome Signature Body
+    received scope (token bracket (token name (token comma (inner p inside (token close parts))))) signature =
         and_then (channel scope name signature) (λ c after.
         and_then (pattern_in scope inside after) (λ found next.
-        and_then (continued parts found.scope next) (λ q last.
+        and_then (continued (found.names ∷ scope) parts next) (λ q last.
         done (input c found.steps q) last)))
-    received _ scope signature = done nil signature
+    received scope _ signature = done nil signature
 
     -- "out" "(" id "," Term ")" [ ";" Pre ]
-    pub sent : Parts → List (List ℕ) → Signature → Outcome Signature Body
-    sent (token bracket (token name (token comma (inner p inside (token close parts))))) scope signature =
+    pub sent : Locals → Parts → Signature → Outcome Signature Body
+    sent scope (token bracket (token name (token comma (inner p inside (token close parts))))) signature =
         and_then (channel scope name signature) (λ c after.
         and_then (term definitions scope inside after) (λ u next.
-        and_then (continued parts scope next) (λ q last.
+        and_then (continued scope parts next) (λ q last.
         done (output c u q) last)))
-    sent _ scope signature = done nil signature
+    sent scope _ signature = done nil signature
 
     -- "if" Term "=" Term "then" Pre [ "else" Pre ]
-    pub compared : Parts → List (List ℕ) → Signature → Outcome Signature Body
-    compared (inner p left (token equals (inner q right (token word (inner r chosen parts))))) scope signature =
+    pub compared : Locals → Parts → Signature → Outcome Signature Body
+    compared scope (inner p left (token equals (inner q right (token word (inner r chosen parts))))) signature =
         and_then (term definitions scope left signature) (λ u after.
         and_then (term definitions scope right after) (λ v next.
-        and_then (process chosen scope next) (λ p next.
-        and_then (continued parts scope next) (λ q last.
+        and_then (process scope chosen next) (λ p next.
+        and_then (continued scope parts next) (λ q last.
         done (conditional u v p q) last))))
-    compared _ scope signature = done nil signature
+    compared scope _ signature = done nil signature
 
     -- "let" Pattern "=" Term "in" Pre [ "else" Pre ]
-    pub matched : Parts → List (List ℕ) → Signature → Outcome Signature Body
-    matched (inner p inside (token equals (inner q right (token word (inner r chosen parts))))) scope signature =
+    pub matched : Locals → Parts → Signature → Outcome Signature Body
+    matched scope (inner p inside (token equals (inner q right (token word (inner r chosen parts))))) signature =
         and_then (pattern_in scope inside signature) (λ found after.
         and_then (term definitions scope right after) (λ u next.
-        and_then (process chosen found.scope next) (λ p next.
-        and_then (continued parts scope next) (λ q last.
+        and_then (process (found.names ∷ scope) chosen next) (λ p next.
+        and_then (continued scope parts next) (λ q last.
         done (bind u found.steps p q) last))))
-    matched _ scope signature = done nil signature
+    matched scope _ signature = done nil signature
 
     -- what follows `;` or `else`, or `0` where nothing does
-    pub continued : Parts → List (List ℕ) → Signature → Outcome Signature Body
-    continued (token sign (inner p inside parts)) scope signature = process inside scope signature
-    continued _ scope signature = done nil signature
+    pub continued : Locals → Parts → Signature → Outcome Signature Body
+    continued scope (token sign (inner p inside parts)) signature = process scope inside signature
+    continued scope _ signature = done nil signature

@@ -1,16 +1,21 @@
 -- Rewrite rules, with their names looked up. An identifier that is not declared is a variable.
-use Rattle.std.specs.Prelude.{ℕ, zero, suc, ◌-◌, Bool, true, false, ◌&&◌, ◌==◌, nat_le, if◌then◌else◌, List, [], ◌∷◌, ◌++◌, Option, Some, None, length, take, slice_get, unwrap_or, position}
+use Rattle.std.specs.Prelude.{ℕ, zero, suc, ◌-◌, Bool, true, false, ◌&&◌, ◌==◌, nat_le, if◌then◌else◌, List, [], ◌∷◌, ◌++◌, Option, Some, None, length, take, slice_get, unwrap_or, position, is_some}
 use Rattle.std.specs.Str.{bytes_eq}
 use Rattle.dps_lex.specs.declared.vocabulary.TokenKind.TheVariants as kinds
 use Rattle.dps_terms.specs.declared.PublicName.TheVariants.{Declared}
 use Rattle.dps_terms.specs.declared.SymKind.TheVariants.{Destructor}
+use Rattle.dps_terms.specs.declared.Sym.{Sym}
 use Rattle.dps_terms.specs.Tree.{public, var, Tree, leaf, app, trees}
 use Rattle.dps_terms.specs.Signature.{Signature}
 use Rattle.dps_terms.specs.Names.{with_symbol}
 use Rattle.dps_syntax.specs.Tree.{Lexeme, Parts, none, token, inner}
 use Rattle.dps_names.specs.declared.fault.NameCause.TheVariants.{UnknownName, WrongArity, WrongKind, LargeArity, ReservedName, PrivateInRule}
 use Rattle.dps_names.specs.Program.{Definition, WrittenRule}
-use Rattle.dps_names.specs.Scopes.{Outcome, done, faulty, and_then, fault_at, place_of, most_arguments, is_reserved, with_tuple, Meaning, a_local, a_name, a_function, a_process, a_projection, unknown, declared_meaning}
+use Rattle.dps_names.specs.declared.meaning.Meaning.{Meaning}
+use Rattle.dps_names.specs.declared.meaning.Meaning.TheVariants.{Local as a_local, Name as a_name, Function as a_function, Process as a_process, Projection as a_projection, Unknown as unknown}
+use Rattle.dps_names.specs.Faults.{place_of}
+use Rattle.dps_names.specs.Outcome.{Outcome, done, faulty, and_then, fault_at}
+use Rattle.dps_names.specs.Scopes.{most_arguments, is_reserved, with_tuple, declared_meaning}
 use Rattle.dps_names.specs.Terms.{is_kind, count_inner}
 
 -- what is known inside a rule: the signature, and the rule's variables so far, by first occurrence
@@ -19,12 +24,14 @@ pub record InRule : Type 0 where
   pub variables : List (List ℕ)
 
 -- the number of a variable, and the variables with it
-abbrev pub variable_at : InRule → List ℕ → Option ℕ → Outcome InRule Tree
-variable_at state text (Some n) = done (leaf (var n)) state
-variable_at state text None = done (leaf (var (length state.variables))) (record { signature = state.signature; variables = state.variables ++ text ∷ [] })
+abbrev pub variable_number : List (List ℕ) → List ℕ → ℕ
+variable_number variables text = unwrap_or (position (bytes_eq text) variables) (length variables)
+
+abbrev pub with_variable : List (List ℕ) → List ℕ → List (List ℕ)
+with_variable variables text = if is_some (position (bytes_eq text) variables) then variables else variables ++ text ∷ []
 
 abbrev pub variable : InRule → List ℕ → Outcome InRule Tree
-variable state text = variable_at state text (position (bytes_eq text) state.variables)
+variable state text = done (leaf (var (variable_number state.variables text))) (record { signature = state.signature; variables = with_variable state.variables text })
 
 -- An identifier that is not declared: with brackets behind it, it is unknown.
 abbrev pub variable_or_unknown : Lexeme → Bool → InRule → Outcome InRule Tree
@@ -37,8 +44,8 @@ public_name lexeme (suc count) is_private n state = fault_at WrongArity lexeme
 public_name lexeme zero true n state = fault_at PrivateInRule lexeme
 public_name lexeme zero false n state = done (leaf (public (Declared n))) state
 
-abbrev pub function_in_rule : Lexeme → Bool → Outcome InRule (List Tree) → ℕ → Outcome InRule Tree
-function_in_rule lexeme true arguments f = and_then arguments (λ ts state. done (app (record { number = f }) (trees ts)) state)
+abbrev pub function_in_rule : Lexeme → Bool → Outcome InRule (List Tree) → Sym → Outcome InRule Tree
+function_in_rule lexeme true arguments f = and_then arguments (λ ts state. done (app f (trees ts)) state)
 function_in_rule lexeme false arguments f = fault_at WrongArity lexeme
 
 abbrev pub identifier_in_rule : Lexeme → Bool → ℕ → (InRule → Outcome InRule (List Tree)) → InRule → Meaning → Outcome InRule Tree
@@ -71,6 +78,15 @@ has_more none = false
 has_more (token lexeme parts) = true
 has_more (inner p inside parts) = true
 
+-- The function at the root of a left side, over so many arguments. Where it is not declared, it is declared here, as
+-- a destructor.
+abbrev pub declared_root : Lexeme → ℕ → Signature → Outcome Signature Sym
+declared_root lexeme count signature =
+    if is_reserved lexeme.text then fault_at ReservedName lexeme
+    else (if nat_le count most_arguments
+    then done (record { number = length signature.symbols }) (with_symbol signature (record { name = lexeme.text; kind = Destructor; arity = count }))
+    else fault_at LargeArity lexeme)
+
 module _ (definitions : List Definition) where
   abbrev mutual
     pub rule_term : Parts → InRule → Outcome InRule Tree
@@ -87,17 +103,8 @@ module _ (definitions : List Definition) where
     rule_terms (inner p inside parts) state =
         and_then (rule_term inside state) (λ t after. and_then (rule_terms parts after) (λ ts last. done (t ∷ ts) last))
 
-  -- The function at the root of a left side, over so many arguments. Where it is not declared, it is declared here, as
-  -- a destructor.
-  abbrev pub declared_root : Lexeme → ℕ → Signature → Outcome Signature ℕ
-  declared_root lexeme count signature =
-      if is_reserved lexeme.text then fault_at ReservedName lexeme
-      else (if nat_le count most_arguments
-      then done (length signature.symbols) (with_symbol signature (record { name = lexeme.text; kind = Destructor; arity = count }))
-      else fault_at LargeArity lexeme)
-
-  abbrev pub root_as : Lexeme → ℕ → Signature → Meaning → Outcome Signature ℕ
-  root_as lexeme count signature (a_function f arity) = if count == arity then done f signature else fault_at WrongArity lexeme
+  abbrev pub root_as : Lexeme → ℕ → Signature → Meaning → Outcome Signature Sym
+  root_as lexeme count signature (a_function f arity) = if count == arity && nat_le count most_arguments then done f signature else fault_at WrongArity lexeme
   root_as lexeme count signature (a_name n is_private) = fault_at WrongArity lexeme
   root_as lexeme count signature (a_process n parameters) = fault_at WrongKind lexeme
   root_as lexeme count signature (a_local n) = declared_root lexeme count signature
@@ -105,11 +112,11 @@ module _ (definitions : List Definition) where
   root_as lexeme count signature unknown = declared_root lexeme count signature
 
   -- Rule = id "(" Term { "," Term } ")" "->" Term: the last of its terms is the right side.
-  abbrev pub sides_of : Lexeme → ℕ → ℕ → Outcome InRule (List Tree) → Outcome Signature WrittenRule
+  abbrev pub sides_of : Lexeme → Sym → ℕ → Outcome InRule (List Tree) → Outcome Signature WrittenRule
   sides_of lexeme f count (faulty fault) = faulty fault
   sides_of lexeme f count (done ts state) =
       done (record {
-        rule = record { left = app (record { number = f }) (trees (take count ts)); right = unwrap_or (slice_get ts count) (leaf (var 0)) };
+        rule = record { left = app f (trees (take count ts)); right = unwrap_or (slice_get ts count) (leaf (var 0)) };
         place = place_of lexeme;
         variables = state.variables;
       }) state.signature

@@ -35,6 +35,9 @@ pub read_step-stored_step : (s : Step) → read_step (stored_step s) ≡ s
 read_step-stored_step (Project f n) = refl
 read_step-stored_step (Test n w) = λ i. Test n (read_written-stored_written w i)
 
+abbrev pub step_code : Coded Step
+step_code = code_by Gv itself stored_step read_step read_step-stored_step
+
 abbrev pub stored_steps : List Step → Gv
 stored_steps [] = gnil
 stored_steps (s ∷ ss) = gcons (stored_step s) (stored_steps ss)

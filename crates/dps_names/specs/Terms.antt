@@ -5,6 +5,7 @@ use Rattle.dps_lex.specs.contracts.vocabulary.TokenKind.{the_type}
 use Rattle.dps_lex.specs.declared.vocabulary.TokenKind.{TokenKind}
 use Rattle.dps_lex.specs.declared.vocabulary.TokenKind.TheVariants as kinds
 use Rattle.dps_terms.specs.declared.PublicName.TheVariants.{Declared}
+use Rattle.dps_terms.specs.declared.Sym.{Sym}
 use Rattle.dps_terms.specs.Tree.{Leaf, public, private, var, Tree, leaf, app, trees}
 use Rattle.dps_terms.specs.Signature.{Signature}
 use Rattle.dps_syntax.specs.Tree.{Lexeme, Parts, none, token, inner}
@@ -12,7 +13,12 @@ use Rattle.dps_names.specs.declared.fault.NameCause.TheVariants.{UnknownName, Wr
 use Rattle.dps_names.specs.declared.written.Use.{Use}
 use Rattle.dps_names.specs.declared.written.Use.TheVariants.{PrivateName, Local}
 use Rattle.dps_names.specs.Program.{Written, Definition}
-use Rattle.dps_names.specs.Scopes.{Outcome, done, and_then, fault_at, place_of, most_arguments, with_tuple, Meaning, a_local, a_name, a_function, a_process, a_projection, unknown, meaning, private_number}
+use Rattle.dps_names.specs.declared.meaning.Projection.{Projection}
+use Rattle.dps_names.specs.declared.meaning.Meaning.{Meaning}
+use Rattle.dps_names.specs.declared.meaning.Meaning.TheVariants.{Local as a_local, Name as a_name, Function as a_function, Process as a_process, Projection as a_projection, Unknown as unknown}
+use Rattle.dps_names.specs.Faults.{place_of}
+use Rattle.dps_names.specs.Outcome.{Outcome, done, and_then, fault_at}
+use Rattle.dps_names.specs.Scopes.{Locals, most_arguments, with_tuple, meaning, private_number}
 
 abbrev pub is_kind : TokenKind → Lexeme → Bool
 is_kind kind lexeme = sameb the_type kind lexeme.kind
@@ -35,8 +41,8 @@ abbrev pub all_uses : List Written → List Use
 all_uses [] = []
 all_uses (w ∷ ws) = w.uses ++ all_uses ws
 
-abbrev pub applied : ℕ → List Written → Written
-applied f arguments = record { tree = app (record { number = f }) (trees (all_trees arguments)); uses = all_uses arguments }
+abbrev pub applied : Sym → List Written → Written
+applied f arguments = record { tree = app f (trees (all_trees arguments)); uses = all_uses arguments }
 
 -- a declared name: a private one is written as its number among the private ones
 abbrev pub name_written : Signature → Lexeme → ℕ → Bool → Written
@@ -49,7 +55,7 @@ without_arguments lexeme zero signature w = done w signature
 without_arguments lexeme (suc n) signature w = fault_at WrongArity lexeme
 
 -- The function of that number over arguments that are read behind it, of which there are so many.
-abbrev pub function_of : Lexeme → Bool → Outcome Signature (List Written) → ℕ → Outcome Signature Written
+abbrev pub function_of : Lexeme → Bool → Outcome Signature (List Written) → Sym → Outcome Signature Written
 function_of lexeme true arguments f = and_then arguments (λ ws signature. done (applied f ws) signature)
 function_of lexeme false arguments f = fault_at WrongArity lexeme
 
@@ -62,7 +68,7 @@ identifier_as lexeme count arguments signature (a_function f arity) =
 identifier_as lexeme count arguments signature (a_process n parameters) = fault_at WrongKind lexeme
 identifier_as lexeme count arguments signature (a_projection projection) =
     let tuple = with_tuple signature projection.length in
-    function_of lexeme (count == 1) (arguments tuple.signature) (tuple.symbol + projection.index)
+    function_of lexeme (count == 1) (arguments tuple.signature) (record { number = tuple.symbol + projection.index })
 identifier_as lexeme count arguments signature unknown = fault_at UnknownName lexeme
 
 -- Brackets round one term are nothing, and round several they are a tuple.
@@ -75,10 +81,10 @@ tuple_of count members signature lexeme =
     if nat_le count 1 then and_then (members signature) (λ ws after. done (the_first ws) after)
     else (if nat_le count most_arguments then
     (let tuple = with_tuple signature count in
-    and_then (members tuple.signature) (λ ws after. done (applied tuple.symbol ws) after))
+    and_then (members tuple.signature) (λ ws after. done (applied (record { number = tuple.symbol }) ws) after))
     else fault_at LargeArity lexeme)
 
-module _ (definitions : List Definition) (scope : List (List ℕ)) where
+module _ (definitions : List Definition) (scope : Locals) where
   abbrev mutual
     -- Term = id [ "(" [ Term { "," Term } ] ")" ] | "(" Term { "," Term } ")"
     pub term : Parts → Signature → Outcome Signature Written

@@ -5,11 +5,22 @@
 #![tactic(auto)]
 
 mod body;
+mod definitions;
 mod fault;
+mod meaning;
+mod parts;
+mod pattern;
+mod process;
 mod program;
+mod rule;
+mod scope;
+mod shape;
+mod signature;
+mod term;
+mod texts;
 mod written;
 
 pub use body::{Body, BodyView, Channel, Step};
-pub use fault::{NameCause, NameFault};
+pub use fault::{NameCause, NameFault, NameRefusal};
 pub use program::{Definition, Program, Side, WrittenRule};
 pub use written::{Use, Written};

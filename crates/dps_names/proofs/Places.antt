@@ -1,0 +1,13 @@
+-- The place of a text among strings, and among their bytes.
+use Rattle.std.proofs.Common.{◌≡◌, ℕ, ◌+◌, Bool, true, false, cond, not, List, [], ◌∷◌, length, map, refl, ap}
+use Rattle.std.proofs.lemmas.List.{length-map}
+use Rattle.std.specs.List.{position, prefix_len}
+
+prefix_len-map : {X Y : Type 0} (p : Y → Bool) (f : X → Y) (xs : List X) → prefix_len p (map f xs) ≡ prefix_len (λ x. p (f x)) xs
+prefix_len-map p f [] = refl
+prefix_len-map p f (x ∷ xs) = ap (λ n. cond (p (f x)) (1 + n) 0) (prefix_len-map p f xs)
+
+pub position-map : {X Y : Type 0} (p : Y → Bool) (f : X → Y) (xs : List X) → position p (map f xs) ≡ position (λ x. p (f x)) xs
+position-map p f xs = rw (length-map xs f, prefix_len-map (λ y. not (p y)) f xs) refl
+
+pub ruleset for_texts = (position-map)
