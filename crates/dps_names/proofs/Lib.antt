@@ -9,3 +9,5 @@ pub mod Listing
 pub mod Chains
 pub mod Shaping
 pub mod Processing
+pub mod Declaring
+pub mod DeclaringShapes

@@ -18,3 +18,5 @@ pub mod Processes
 pub mod StoredPattern
 pub mod Declarations
 pub mod Shapes
+pub mod DeclarationShapes
+pub mod Answers

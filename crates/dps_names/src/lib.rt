@@ -5,6 +5,7 @@
 #![tactic(auto)]
 
 mod body;
+mod declaration;
 mod definitions;
 mod fault;
 mod meaning;
@@ -21,6 +22,7 @@ mod texts;
 mod written;
 
 pub use body::{Body, BodyView, Channel, Step};
+pub use declaration::resolve;
 pub use fault::{NameCause, NameFault, NameRefusal};
 pub use program::{Definition, Program, Side, WrittenRule};
 pub use written::{Use, Written};

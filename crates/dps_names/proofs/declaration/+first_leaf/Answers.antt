@@ -1,0 +1,22 @@
+use Rattle.std.proofs.Common.{◌≡◌, get_or, sym, ap, ◌∙◌, arith, subst, Some}
+use Rattle.dps_syntax.specs.declared.tree.Part.TheVariants.{Inner}
+use Rattle.dps_syntax.specs.Tree.{Derivation, count}
+use Rattle.dps_syntax.specs.Parts.{parts_of}
+use Rattle.dps_names.specs.Declarations.{first_lexeme}
+use Rattle.dps_names.proofs.Rows.{inner_is_smaller}
+use Rattle.dps_names.proofs.Declaring.{leaves_within}
+use Rattle.dps_names.proofs.declaration.+first_leaf.Goals as goal
+
+pub first_leaf-requires : goal.first_leaf-requires
+first_leaf-requires t c =
+    let here : get_or c.args.parts.now c.loop-part.part-index c.part-item.result ≡ Inner c.in-Inner.tree = sym c.part-item.is ∙ c.in-Inner.is in
+    let smaller = inner_is_smaller c.args.parts.now c.loop-part.part-index c.part-item.result c.in-Inner.tree c.loop-part-test.true here in
+    let same : count (parts_of c.as_slice.result.now) ≡ count c.in-Inner.tree.parts = ap (λ ps. count (parts_of ps)) c.as_slice.ensures.value ∙ ap (λ (v : Derivation). count v.parts) c.tree.view_is in
+    (omega (arith, smaller, same, c.decreases), tt)
+
+pub returns-in-Some : goal.returns-in-Some
+returns-in-Some t c =
+    let here : get_or c.args.parts.now c.loop-part.part-index c.part-item.result ≡ Inner c.in-Inner.tree = sym c.part-item.is ∙ c.in-Inner.is in
+    let same : parts_of c.as_slice.result.now ≡ c.in-Inner.tree.parts = ap parts_of c.as_slice.ensures.value ∙ ap (λ (v : Derivation). v.parts) c.tree.view_is in
+    leaves_within (parts_of c.args.parts.now) c.args.parts.now c.loop-part.part-index c.part-item.result c.in-Inner.tree c.in-Some.leaf.now c.loop-part.invariant c.loop-part-test.true here
+    (subst (λ ps. first_lexeme ps ≡ Some c.in-Some.leaf.now) same c.in-Some.ensures)
