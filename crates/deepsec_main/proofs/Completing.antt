@@ -2,18 +2,39 @@
 use Rattle.std.proofs.Common.{◌≡◌, ◌⊎◌, ℕ, ◌<◌, ◌≤◌, List, [], ◌∷◌, length, Option, Some, refl, sym, ◌∙◌, ap, subst, inl, inr, arith}
 use Rattle.std.specs.Prelude.{IfSome}
 use Rattle.dps_io.specs.Counts.{Rose}
-use Rattle.dps_small.specs.Meaning.{MeansEquivalent, MeansNothing}
+use Rattle.std.specs.Prelude.{string_bytes}
+use Rattle.dps_judge.specs.Meaning.{MeansEquivalent, MeansDifferent}
+use Rattle.dps_lex.specs.declared.vocabulary.Place.{Place}
+use Rattle.dps_judge.specs.Judgement.{IsAttacked, IsRefused}
+use Rattle.dps_judge.specs.LawsOfTexts.{NoTextMeansTwoProblems, NoTextIsRefusedAndJudged, NoTextIsEquivalentAndAttacked}
+use Rattle.dps_process.specs.Traces.{IsEquivalent}
 use Rattle.deepsec_main.specs.declared.command.Command.{Command}
 use Rattle.deepsec_main.specs.declared.command.Command.TheVariants.{Check}
 use Rattle.deepsec_main.specs.declared.outcome.Outcome.{Outcome}
-use Rattle.deepsec_main.specs.declared.outcome.Outcome.TheVariants.{Equivalent, Refused, Stopped, NoMemory}
+use Rattle.deepsec_main.specs.declared.outcome.Outcome.TheVariants.{Equivalent, NotEquivalent, Refused, Stopped, NoMemory}
 use Rattle.deepsec_main.specs.declared.outcome.StopName.TheVariants.{TooLong, OpenFault, ReadFault, WordsRefused}
-use Rattle.deepsec_main.specs.declared.outcome.Cause.TheVariants.{NotBuilt}
 use Rattle.deepsec_main.specs.Words.{word_at, HasPlan}
 use Rattle.deepsec_main.specs.Reports.{status_of}
-use Rattle.deepsec_main.specs.Answers.{limit, ChecksWord, HasReadText, IsTooLong, IsCaused, IsReported, IsFaultless, NamesText, IsComplete}
+use Rattle.deepsec_main.specs.Answers.{limit, IsRefusedSomewhere, ChecksWord, HasReadText, IsTooLong, IsCaused, IsReported, IsFaultless, NamesText, IsComplete}
 
-module _ {F W : Type 0} (told : F → List ℕ → Option (List ℕ)) (taken open_faults read_faults : F → ℕ) (written : W → Option (List ℕ)) (faults : W → ℕ) (words : List (List ℕ)) (old new : F) (before after : W) where
+-- no text has two of these verdicts
+pub record IsOneVerdict : Type 0 where
+  pub not_attacked : (bytes trace : List ℕ) → MeansEquivalent bytes → IsAttacked bytes trace → ⊥
+  pub not_different : (bytes : List ℕ) → MeansEquivalent bytes → MeansDifferent bytes → ⊥
+  pub equivalent_unrefused : (bytes cause : List ℕ) (place : Place) → MeansEquivalent bytes → IsRefused bytes place cause → ⊥
+  pub different_unrefused : (bytes cause : List ℕ) (place : Place) → MeansDifferent bytes → IsRefused bytes place cause → ⊥
+  pub attacked_unrefused : (bytes trace cause : List ℕ) (place : Place) → IsAttacked bytes trace → IsRefused bytes place cause → ⊥
+
+pub one_verdict : NoTextMeansTwoProblems → NoTextIsRefusedAndJudged → NoTextIsEquivalentAndAttacked → IsOneVerdict
+one_verdict problems refusals attacks = record {
+  not_attacked = attacks;
+  not_different = λ bytes e d. d.different (subst IsEquivalent (problems bytes e.problem d.problem e.means d.means) e.equivalent);
+  equivalent_unrefused = λ bytes cause place e r. refusals bytes place cause e.problem r e.means e.built;
+  different_unrefused = λ bytes cause place d r. refusals bytes place cause d.problem r d.means d.built;
+  attacked_unrefused = λ bytes trace cause place a r. refusals bytes place cause a.problem r a.means a.built;
+}
+
+module _ (one : IsOneVerdict) {F W : Type 0} (told : F → List ℕ → Option (List ℕ)) (taken open_faults read_faults : F → ℕ) (written : W → Option (List ℕ)) (faults : W → ℕ) (words : List (List ℕ)) (old new : F) (before after : W) where
   abbrev Faultless : Type 0
   Faultless = IsFaultless told open_faults read_faults faults old new before after
 
@@ -50,25 +71,36 @@ module _ {F W : Type 0} (told : F → List ℕ → Option (List ℕ)) (taken ope
       let is : told old (word_at words number) ≡ Some bytes = ap (λ m. told old (word_at words m)) same ∙ n.is_told in
       subst (λ (o : Option (List ℕ)). IfSome o (λ b. limit < length b)) is r.longer
 
-  both_meanings : (bytes : List ℕ) → MeansEquivalent bytes → MeansNothing bytes → ⊥
-  both_meanings bytes e n = n.nothing e.problem e.means
-
   abbrev Caused : Outcome → Type 0
   Caused outcome = IsCaused told taken open_faults read_faults words old new outcome
 
-  -- which outcome a file has whose text means a problem
-  equivalent_only : (outcome : Outcome) (bytes : List ℕ) → Named bytes → length bytes ≤ limit → MeansEquivalent bytes → Faultless → Caused outcome → (outcome ≡ Equivalent) ⊎ (outcome ≡ NoMemory)
-  equivalent_only Equivalent bytes n l m f c = inl refl
-  equivalent_only (Refused file line column NotBuilt) bytes n l m f c = absurd (both_meanings bytes m (told_read bytes file MeansNothing n c.0))
-  equivalent_only (Stopped TooLong word) bytes n l m f c = absurd (let k = told_longer bytes word n c in omega arith)
-  equivalent_only (Stopped OpenFault word) bytes n l m f c = absurd (f.no_open_fault c.rose)
-  equivalent_only (Stopped ReadFault word) bytes n l m f c = absurd (f.no_read_fault c.rose)
-  equivalent_only (Stopped WordsRefused word) bytes n l m f c = absurd (c.no_plan Check (n.number ∷ []) n.planned)
-  equivalent_only NoMemory bytes n l m f c = inr refl
+  -- the status of a file whose text means a problem with equivalent sides
+  equivalent_status : (outcome : Outcome) (bytes : List ℕ) → Named bytes → length bytes ≤ limit → MeansEquivalent bytes → Faultless → Caused outcome → (status_of outcome ≡ 0) ⊎ (outcome ≡ NoMemory)
+  equivalent_status Equivalent bytes n l m f c = inl refl
+  equivalent_status (NotEquivalent trace) bytes n l m f c = absurd (one.not_attacked bytes (string_bytes trace) m (told_read bytes c.0 (λ b. IsAttacked b (string_bytes trace)) n c.1))
+  equivalent_status (Refused file line column cause) bytes n l m f c =
+      absurd (one.equivalent_unrefused bytes (string_bytes cause) (record { line = line; column = column }) m (told_read bytes file (λ b. IsRefused b (record { line = line; column = column }) (string_bytes cause)) n c))
+  equivalent_status (Stopped TooLong word) bytes n l m f c = absurd (let k = told_longer bytes word n c in omega arith)
+  equivalent_status (Stopped OpenFault word) bytes n l m f c = absurd (f.no_open_fault c.rose)
+  equivalent_status (Stopped ReadFault word) bytes n l m f c = absurd (f.no_read_fault c.rose)
+  equivalent_status (Stopped WordsRefused word) bytes n l m f c = absurd (c.no_plan Check (n.number ∷ []) n.planned)
+  equivalent_status NoMemory bytes n l m f c = inr refl
 
-  refused_status : (outcome : Outcome) (bytes : List ℕ) → Named bytes → length bytes ≤ limit → MeansNothing bytes → Faultless → Caused outcome → (status_of outcome ≡ 3) ⊎ (outcome ≡ NoMemory)
-  refused_status Equivalent bytes n l m f c = absurd (both_meanings bytes (told_read bytes c.0 MeansEquivalent n c.1) m)
-  refused_status (Refused file line column NotBuilt) bytes n l m f c = inl refl
+  different_status : (outcome : Outcome) (bytes : List ℕ) → Named bytes → length bytes ≤ limit → MeansDifferent bytes → Faultless → Caused outcome → (status_of outcome ≡ 1) ⊎ (outcome ≡ NoMemory)
+  different_status Equivalent bytes n l m f c = absurd (one.not_different bytes (told_read bytes c.0 MeansEquivalent n c.1) m)
+  different_status (NotEquivalent trace) bytes n l m f c = inl refl
+  different_status (Refused file line column cause) bytes n l m f c =
+      absurd (one.different_unrefused bytes (string_bytes cause) (record { line = line; column = column }) m (told_read bytes file (λ b. IsRefused b (record { line = line; column = column }) (string_bytes cause)) n c))
+  different_status (Stopped TooLong word) bytes n l m f c = absurd (let k = told_longer bytes word n c in omega arith)
+  different_status (Stopped OpenFault word) bytes n l m f c = absurd (f.no_open_fault c.rose)
+  different_status (Stopped ReadFault word) bytes n l m f c = absurd (f.no_read_fault c.rose)
+  different_status (Stopped WordsRefused word) bytes n l m f c = absurd (c.no_plan Check (n.number ∷ []) n.planned)
+  different_status NoMemory bytes n l m f c = inr refl
+
+  refused_status : (outcome : Outcome) (bytes : List ℕ) → Named bytes → length bytes ≤ limit → IsRefusedSomewhere bytes → Faultless → Caused outcome → (status_of outcome ≡ 3) ⊎ (outcome ≡ NoMemory)
+  refused_status Equivalent bytes n l m f c = absurd (one.equivalent_unrefused bytes m.1.0 m.0 (told_read bytes c.0 MeansEquivalent n c.1) m.1.1)
+  refused_status (NotEquivalent trace) bytes n l m f c = absurd (one.attacked_unrefused bytes (string_bytes trace) m.1.0 m.0 (told_read bytes c.0 (λ b. IsAttacked b (string_bytes trace)) n c.1) m.1.1)
+  refused_status (Refused file line column cause) bytes n l m f c = inl refl
   refused_status (Stopped TooLong word) bytes n l m f c = absurd (let k = told_longer bytes word n c in omega arith)
   refused_status (Stopped OpenFault word) bytes n l m f c = absurd (f.no_open_fault c.rose)
   refused_status (Stopped ReadFault word) bytes n l m f c = absurd (f.no_read_fault c.rose)
@@ -77,7 +109,8 @@ module _ {F W : Type 0} (told : F → List ℕ → Option (List ℕ)) (taken ope
 
   long_status : (outcome : Outcome) (bytes : List ℕ) → Named bytes → limit < length bytes → Faultless → Caused outcome → (status_of outcome ≡ 8) ⊎ (outcome ≡ NoMemory)
   long_status Equivalent bytes n l f c = absurd (let k = told_short bytes c.0 MeansEquivalent n c.1 in omega arith)
-  long_status (Refused file line column NotBuilt) bytes n l f c = absurd (let k = told_short bytes file MeansNothing n c.0 in omega arith)
+  long_status (NotEquivalent trace) bytes n l f c = absurd (let k = told_short bytes c.0 (λ b. IsAttacked b (string_bytes trace)) n c.1 in omega arith)
+  long_status (Refused file line column cause) bytes n l f c = absurd (let k = told_short bytes file (λ b. IsRefused b (record { line = line; column = column }) (string_bytes cause)) n c in omega arith)
   long_status (Stopped TooLong word) bytes n l f c = inl refl
   long_status (Stopped OpenFault word) bytes n l f c = absurd (f.no_open_fault c.rose)
   long_status (Stopped ReadFault word) bytes n l f c = absurd (f.no_read_fault c.rose)
@@ -89,7 +122,8 @@ module _ {F W : Type 0} (told : F → List ℕ → Option (List ℕ)) (taken ope
 
   planless_status : (outcome : Outcome) → Planless → Caused outcome → (status_of outcome ≡ 7) ⊎ (outcome ≡ NoMemory)
   planless_status Equivalent n c = absurd (n Check (c.0 ∷ []) c.1.planned)
-  planless_status (Refused file line column NotBuilt) n c = absurd (n Check (file ∷ []) c.0.planned)
+  planless_status (NotEquivalent trace) n c = absurd (n Check (c.0 ∷ []) c.1.planned)
+  planless_status (Refused file line column cause) n c = absurd (n Check (file ∷ []) c.planned)
   planless_status (Stopped TooLong word) n c = absurd (n Check (word ∷ []) c.planned)
   planless_status (Stopped OpenFault word) n c = absurd (n Check (word ∷ []) c.planned)
   planless_status (Stopped ReadFault word) n c = absurd (n Check (word ∷ []) c.planned)
@@ -100,13 +134,10 @@ module _ {F W : Type 0} (told : F → List ℕ → Option (List ℕ)) (taken ope
   status_or outcome status want e (inl s) = inl (e ∙ s)
   status_or outcome status want e (inr n) = inr (e ∙ ap status_of n)
 
-  equivalent_status : (outcome : Outcome) → (outcome ≡ Equivalent) ⊎ (outcome ≡ NoMemory) → (status_of outcome ≡ 0) ⊎ (outcome ≡ NoMemory)
-  equivalent_status outcome (inl e) = inl (ap status_of e)
-  equivalent_status outcome (inr n) = inr n
-
   pub complete : (outcome : Outcome) (status : ℕ) → Caused outcome → IsReported written faults before after outcome status → IsComplete told open_faults read_faults faults words old new before after status
   complete outcome status c r = record {
-    equivalent = λ bytes n l m f. status_or outcome status 0 (own_status outcome status r f.no_write_fault) (equivalent_status outcome (equivalent_only outcome bytes n l m f c));
+    equivalent = λ bytes n l m f. status_or outcome status 0 (own_status outcome status r f.no_write_fault) (equivalent_status outcome bytes n l m f c);
+    not_equivalent = λ bytes n l m f. status_or outcome status 1 (own_status outcome status r f.no_write_fault) (different_status outcome bytes n l m f c);
     refused = λ bytes n l m f. status_or outcome status 3 (own_status outcome status r f.no_write_fault) (refused_status outcome bytes n l m f c);
     too_long = λ bytes n l f. status_or outcome status 8 (own_status outcome status r f.no_write_fault) (long_status outcome bytes n l f c);
     words_refused = λ n f. status_or outcome status 7 (own_status outcome status r f.no_write_fault) (planless_status outcome n c);

@@ -1,23 +1,28 @@
 -- The outcomes and their causes. What a file object shows of itself is given as functions: what it tells of each name,
 -- how many bytes of the open file were read, and its counts of faults.
-use Rattle.std.specs.Prelude.{◌≡◌, ◌⊎◌, ℕ, ◌+◌, ◌<◌, ◌≤◌, List, [], ◌∷◌, length, Option, Some, IfSome, ⊤}
+use Rattle.std.specs.Prelude.{◌≡◌, ◌⊎◌, ℕ, ◌+◌, ◌<◌, ◌≤◌, List, [], ◌∷◌, length, Option, Some, IfSome, string_bytes, ⊤}
 use Rattle.std.specs.Io.KnownBytes.{append_known}
 use Rattle.dps_io.specs.Counts.{Rose}
 use Rattle.dps_io.specs.Bytes.{AppendsFront}
-use Rattle.dps_small.specs.Meaning.{MeansEquivalent, MeansNothing}
+use Rattle.dps_lex.specs.declared.vocabulary.Place.{Place}
+use Rattle.dps_judge.specs.Meaning.{MeansEquivalent, MeansDifferent}
+use Rattle.dps_judge.specs.Judgement.{IsAttacked, IsRefused}
 use Rattle.deepsec_main.specs.declared.command.Command.{Command}
 use Rattle.deepsec_main.specs.declared.command.Command.TheVariants.{Check}
 use Rattle.deepsec_main.specs.declared.outcome.Outcome.{Outcome}
-use Rattle.deepsec_main.specs.declared.outcome.Outcome.TheVariants.{Equivalent, Refused, Stopped, NoMemory}
+use Rattle.deepsec_main.specs.declared.outcome.Outcome.TheVariants.{Equivalent, NotEquivalent, Refused, Stopped, NoMemory}
 use Rattle.deepsec_main.specs.declared.outcome.StopName.{StopName}
 use Rattle.deepsec_main.specs.declared.outcome.StopName.TheVariants.{TooLong, OpenFault, ReadFault, WordsRefused}
-use Rattle.deepsec_main.specs.declared.outcome.Cause.TheVariants.{NotBuilt}
 use Rattle.deepsec_main.specs.Words.{word_at, HasPlan, IsFirstWrong}
 use Rattle.deepsec_main.specs.Reports.{report_text, status_of}
 
 -- the most bytes of a file
 abbrev pub limit : ℕ
 limit = 1048576
+
+-- the text is refused at some place for some cause
+abbrev pub IsRefusedSomewhere : List ℕ → Type 0
+IsRefusedSomewhere bytes = (place : Place) × ((cause : List ℕ) × IsRefused bytes place cause)
 
 -- the words ask to check the file of this word's number
 abbrev pub ChecksWord : List (List ℕ) → ℕ → Type 0
@@ -56,7 +61,8 @@ module _ {F : Type 0} (told : F → List ℕ → Option (List ℕ)) (taken open_
   -- The cause of each outcome, in the run of these words from the files as they were to the files as they are.
   abbrev pub IsCaused : List (List ℕ) → F → F → Outcome → Type 0
   IsCaused words old new Equivalent = (number : ℕ) × HasReadText (told old) (taken new) words number MeansEquivalent
-  IsCaused words old new (Refused file line column NotBuilt) = HasReadText (told old) (taken new) words file MeansNothing × (line ≡ 1) × (column ≡ 1)
+  IsCaused words old new (NotEquivalent trace) = (number : ℕ) × HasReadText (told old) (taken new) words number (λ bytes. IsAttacked bytes (string_bytes trace))
+  IsCaused words old new (Refused file line column cause) = HasReadText (told old) (taken new) words file (λ bytes. IsRefused bytes (record { line = line; column = column }) (string_bytes cause))
   IsCaused words old new (Stopped name word) = IsStopped words old new name word
   IsCaused words old new NoMemory = ⊤
 
@@ -95,6 +101,7 @@ module _ {F W : Type 0} (told : F → List ℕ → Option (List ℕ)) (open_faul
 
   pub record IsComplete (words : List (List ℕ)) (old new : F) (before after : W) (status : ℕ) : Type 0 where
     pub equivalent : (bytes : List ℕ) → NamesText words old bytes → length bytes ≤ limit → MeansEquivalent bytes → IsFaultless old new before after → IsOr status 0
-    pub refused : (bytes : List ℕ) → NamesText words old bytes → length bytes ≤ limit → MeansNothing bytes → IsFaultless old new before after → IsOr status 3
+    pub not_equivalent : (bytes : List ℕ) → NamesText words old bytes → length bytes ≤ limit → MeansDifferent bytes → IsFaultless old new before after → IsOr status 1
+    pub refused : (bytes : List ℕ) → NamesText words old bytes → length bytes ≤ limit → IsRefusedSomewhere bytes → IsFaultless old new before after → IsOr status 3
     pub too_long : (bytes : List ℕ) → NamesText words old bytes → limit < length bytes → IsFaultless old new before after → IsOr status 8
     pub words_refused : ((command : Command) (numbers : List ℕ) → ¬ HasPlan words command numbers) → IsFaultless old new before after → IsOr status 7

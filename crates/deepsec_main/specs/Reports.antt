@@ -1,21 +1,16 @@
 -- The texts and the statuses of outcomes.
-use Rattle.std.specs.Prelude.{ℕ, List, [], ◌∷◌, ◌++◌, codes}
+use Rattle.std.specs.Prelude.{ℕ, List, [], ◌∷◌, ◌++◌, codes, string_bytes}
 use Rattle.std.specs.Fmt.{decimal}
 use Rattle.deepsec_main.specs.declared.outcome.Outcome.{Outcome}
-use Rattle.deepsec_main.specs.declared.outcome.Outcome.TheVariants.{Equivalent, Refused, Stopped, NoMemory}
+use Rattle.deepsec_main.specs.declared.outcome.Outcome.TheVariants.{Equivalent, NotEquivalent, Refused, Stopped, NoMemory}
 use Rattle.deepsec_main.specs.declared.outcome.StopName.{StopName}
 use Rattle.deepsec_main.specs.declared.outcome.StopName.TheVariants.{TooLong, OpenFault, ReadFault, WordsRefused}
-use Rattle.deepsec_main.specs.declared.outcome.Cause.{Cause}
-use Rattle.deepsec_main.specs.declared.outcome.Cause.TheVariants.{NotBuilt}
 
 abbrev pub stop_text : StopName → List ℕ
 stop_text TooLong = codes "too long"
 stop_text OpenFault = codes "open fault"
 stop_text ReadFault = codes "read fault"
 stop_text WordsRefused = codes "words refused"
-
-abbrev pub cause_text : Cause → List ℕ
-cause_text NotBuilt = codes "not built"
 
 -- a line of a report, a word and what is said of it, and then the rest
 abbrev pub line : List ℕ → List ℕ → List ℕ → List ℕ
@@ -25,17 +20,25 @@ line word value rest = word ++ (codes ": " ++ (value ++ 10 ∷ rest))
 abbrev pub place_line : ℕ → ℕ → List ℕ → List ℕ
 place_line at column rest = codes "at: " ++ (decimal at ++ (codes ":" ++ (decimal column ++ 10 ∷ rest)))
 
+-- an attack, with the text of its trace
+abbrev pub attack_lines : List ℕ → List ℕ
+attack_lines trace = line (codes "result") (codes "not equivalent") (line (codes "node") (codes "/") trace)
+
 -- the lines behind the first
 abbrev pub outcome_lines : Outcome → List ℕ
 outcome_lines Equivalent = line (codes "result") (codes "equivalent") []
+outcome_lines (NotEquivalent trace) = attack_lines (string_bytes trace)
 outcome_lines (Refused file at column cause) =
-    line (codes "result") (codes "refused") (line (codes "file") (decimal file) (place_line at column (line (codes "cause") (cause_text cause) [])))
+    line (codes "result") (codes "refused") (line (codes "file") (decimal file) (place_line at column (line (codes "cause") (string_bytes cause) [])))
 outcome_lines (Stopped name word) = line (codes "result") (stop_text name) (line (codes "word") (decimal word) [])
 outcome_lines NoMemory = line (codes "result") (codes "no memory") []
 
 -- the one text of an outcome
 abbrev pub report_text : Outcome → List ℕ
 report_text outcome = codes "report 1" ++ (10 ∷ outcome_lines outcome)
+
+abbrev pub attack_report : List ℕ → List ℕ
+attack_report trace = codes "report 1" ++ (10 ∷ attack_lines trace)
 
 abbrev pub stop_status : StopName → ℕ
 stop_status TooLong = 8
@@ -46,6 +49,7 @@ stop_status WordsRefused = 7
 -- the status of an outcome that was written
 abbrev pub status_of : Outcome → ℕ
 status_of Equivalent = 0
+status_of (NotEquivalent trace) = 1
 status_of (Refused file at column cause) = 3
 status_of (Stopped name word) = stop_status name
 status_of NoMemory = 6

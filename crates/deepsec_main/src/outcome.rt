@@ -1,22 +1,22 @@
 //! What a run of the program comes to.
 
 /// What the program answers, apart from a write fault.
-#[derive(Clone, Copy, Debug, PartialEq, Eq)]
+#[derive(Drop)]
 pub enum Outcome {
     /// The two processes of the file are trace equivalent.
     Equivalent,
-    /// A file is refused, at this line and column, each counted from 1. It is named by its word's number.
+    /// They are not. The trace is the text of a trace of one of them that the other can not match.
+    NotEquivalent { trace: String },
+    /// A file is refused, at this line and column, each counted from 1, for the cause with this text. The file is named by
+    /// its word's number.
     Refused {
         file: u32,
         line: u32,
         column: u32,
-        cause: Cause,
+        cause: String,
     },
     /// The words, or the file of this word, stopped the run. Words are numbered from 1.
-    Stopped {
-        name: StopName,
-        word: u32,
-    },
+    Stopped { name: StopName, word: u32 },
     /// There was no memory.
     NoMemory,
 }
@@ -32,11 +32,4 @@ pub enum StopName {
     ReadFault,
     /// The words ask for nothing; the one that is named is the first wrong one.
     WordsRefused,
-}
-
-/// Why a file is refused.
-#[derive(Clone, Copy, Debug, PartialEq, Eq)]
-pub enum Cause {
-    /// The text is none of those that are judged yet.
-    NotBuilt,
 }

@@ -1,8 +1,8 @@
 //! The text and the status of an outcome.
 ghost use Rattle.std.specs.Prelude.{◌≡◌, IfOk, string_bytes};
-ghost use Rattle.deepsec_main.specs.Reports.{report_text, status_of, stop_text, stop_status, cause_text};
+ghost use Rattle.deepsec_main.specs.Reports.{report_text, status_of, stop_text, stop_status};
 
-use crate::outcome::{Cause, Outcome, StopName};
+use crate::outcome::{Outcome, StopName};
 use std::alloc::{AllocError, Global};
 
 /// The fixed text for want of memory.
@@ -20,13 +20,14 @@ fn status_of_stop(name: StopName) -> u8
 }
 
 /// The status that the program ends with, where the text of the outcome is written.
-pub fn status(outcome: Outcome) -> u8
-    ensures { result ≡ status_of outcome }
+pub fn status(outcome: &Outcome) -> u8
+    ensures { result ≡ status_of outcome.now }
 {
     match outcome {
         Outcome::Equivalent => 0,
+        Outcome::NotEquivalent { .. } => 1,
         Outcome::Refused { .. } => 3,
-        Outcome::Stopped { name, .. } => status_of_stop(name),
+        Outcome::Stopped { name, .. } => status_of_stop(*name),
         Outcome::NoMemory => 6,
     }
 }
@@ -42,33 +43,27 @@ fn name_of_stop(name: StopName) -> &'static str
     }
 }
 
-fn name_of_cause(cause: Cause) -> &'static str
-    ensures { result.now ≡ cause_text cause }
-{
-    match cause {
-        Cause::NotBuilt => "not built",
-    }
-}
-
 /// The one text of an outcome.
-pub fn text(alloc: Global, outcome: Outcome) -> Result<String, AllocError>
-    ensures { IfOk result (λ text. string_bytes text ≡ report_text outcome) }
+pub fn text(alloc: Global, outcome: &Outcome) -> Result<String, AllocError>
+    ensures { IfOk result (λ text. string_bytes text ≡ report_text outcome.now) }
 {
     match outcome {
         Outcome::Equivalent => String::from_str(alloc, "report 1\nresult: equivalent\n"),
+        Outcome::NotEquivalent { trace } => {
+            format!(in alloc; "report 1\nresult: not equivalent\nnode: /\n{trace}")
+        }
         Outcome::Refused {
             file,
             line,
             column,
             cause,
         } => {
-            let cause = name_of_cause(cause);
             format!(in alloc;
                 "report 1\nresult: refused\nfile: {file}\nat: {line}:{column}\ncause: {cause}\n"
             )
         }
         Outcome::Stopped { name, word } => {
-            let name = name_of_stop(name);
+            let name = name_of_stop(*name);
             format!(in alloc; "report 1\nresult: {name}\nword: {word}\n")
         }
         Outcome::NoMemory => String::from_str(alloc, "report 1\nresult: no memory\n"),

@@ -1,18 +1,23 @@
 //! The whole program, over the words, the files and the sink that it is given.
-ghost use Rattle.std.specs.Prelude.{◌≡◌, ◌⊎◌, ℕ};
+ghost use Rattle.std.specs.Prelude.{◌≡◌, ◌⊎◌, ℕ, List};
+ghost use Rattle.std.specs.Io.KnownBytes.{append_known};
 ghost use Rattle.dps_io.specs.Counts.{Rose};
-ghost use Rattle.dps_small.specs.Meaning.{MeansEquivalent, MeansNothing};
+ghost use Rattle.dps_judge.specs.Meaning.{MeansEquivalent};
+ghost use Rattle.dps_judge.specs.Judgement.{IsAttacked};
 ghost use Rattle.deepsec_main.specs.Words.{texts, IsFirstWrong};
-ghost use Rattle.deepsec_main.specs.Reports.{report_text};
-ghost use Rattle.deepsec_main.specs.Answers.{ChecksWord, HasReadText, IsTooLong, IsCaused, IsReported, IsComplete};
+ghost use Rattle.deepsec_main.specs.Reports.{report_text, attack_report};
+ghost use Rattle.deepsec_main.specs.Answers.{ChecksWord, HasReadText, IsTooLong, IsRefusedSomewhere, IsCaused, IsReported, IsComplete};
 ghost use Rattle.deepsec_main.specs.declared.outcome.Outcome.{Outcome as AnOutcome};
 
 use crate::command::{Command, PlanRefusal};
-use crate::outcome::{Cause, Outcome, StopName};
+use crate::outcome::{Outcome, StopName};
 use crate::report::{MEMORY_TEXT, status, text};
 use crate::words::{plan, word_of};
 use dps_io::{Files, ReadRefusal, Sink, read_all, write_all};
-use dps_small::means_equivalent;
+use dps_judge::laws::{
+    no_text_is_equivalent_and_attacked, no_text_is_refused_and_judged, no_text_means_two_problems,
+};
+use dps_judge::{Verdict, judge};
 use std::alloc::{AllocError, Global};
 
 /// The most bytes of a file.
@@ -40,14 +45,15 @@ fn check<F: Files>(alloc: Global, words: &[String], file: u32, files: &mut F) ->
         Err(ReadRefusal::Memory) => return Outcome::NoMemory,
         Ok(bytes) => bytes,
     };
-    match means_equivalent(alloc, &bytes) {
+    match judge(alloc, &bytes) {
         Err(AllocError) => Outcome::NoMemory,
-        Ok(true) => Outcome::Equivalent,
-        Ok(false) => Outcome::Refused {
+        Ok(Verdict::Equivalent) => Outcome::Equivalent,
+        Ok(Verdict::NotEquivalent { trace }) => Outcome::NotEquivalent { trace },
+        Ok(Verdict::Refused { place, cause }) => Outcome::Refused {
             file,
-            line: 1,
-            column: 1,
-            cause: Cause::NotBuilt,
+            line: place.line,
+            column: place.column,
+            cause,
         },
     }
 }
@@ -69,9 +75,9 @@ fn outcome<F: Files>(alloc: Global, words: &[String], files: &mut F) -> Outcome
 }
 
 /// Writes the text of an outcome, and answers its status.
-fn send<W: Sink>(sink: &mut W, bytes: &[u8], reached: Outcome) -> Status
-    requires { bytes.now ≡ report_text reached }
-    ensures { IsReported W.written W.faults sink.old sink.new reached result.code }
+fn send<W: Sink>(sink: &mut W, bytes: &[u8], reached: &Outcome) -> Status
+    requires { bytes.now ≡ report_text reached.now }
+    ensures { IsReported W.written W.faults sink.old sink.new reached.now result.code }
 {
     match write_all(sink, bytes) {
         Ok(()) => Status {
@@ -86,12 +92,15 @@ fn report<W: Sink>(alloc: Global, sink: &mut W, reached: Outcome) -> (Outcome, S
     ensures kept { (result.0 ≡ reached) ⊎ (result.0 ≡ Outcome.NoMemory) }
     ensures reported { IsReported W.written W.faults sink.old sink.new result.0 result.1.code }
 {
-    match text(alloc, reached) {
-        Ok(text) => (reached, send(sink, text.as_bytes(), reached)),
-        Err(AllocError) => (
-            Outcome::NoMemory,
-            send(sink, MEMORY_TEXT, Outcome::NoMemory),
-        ),
+    match text(alloc, &reached) {
+        Ok(text) => {
+            let status = send(sink, text.as_bytes(), &reached);
+            (reached, status)
+        }
+        Err(AllocError) => {
+            let status = send(sink, MEMORY_TEXT, &Outcome::NoMemory);
+            (Outcome::NoMemory, status)
+        }
     }
 }
 
@@ -102,11 +111,15 @@ pub fn run_one<F: Files, W: Sink>(
     files: &mut F,
     sink: &mut W,
 ) -> Status
-    // The headline: the text of the file means a problem, and its two processes are trace equivalent.
+    // The headline. Equivalent: the text of the file means a problem, and its two processes are trace equivalent.
     ensures equivalent { result.code ≡ 0 → (file : ℕ) × HasReadText (F.told files.old) (F.taken files.new) (texts words.now) file MeansEquivalent }
+    // Not equivalent: it means a problem with an attack, and the trace of the attack is what is printed.
+    ensures not_equivalent { result.code ≡ 1 → (file : ℕ) × (trace : List ℕ)
+        × HasReadText (F.told files.old) (F.taken files.new) (texts words.now) file (λ bytes. IsAttacked bytes trace)
+        × (W.written sink.new ≡ append_known (W.written sink.old) (attack_report trace)) }
 
     // Each other status comes only from its cause.
-    ensures refused { result.code ≡ 3 → (file : ℕ) × HasReadText (F.told files.old) (F.taken files.new) (texts words.now) file MeansNothing }
+    ensures refused { result.code ≡ 3 → (file : ℕ) × HasReadText (F.told files.old) (F.taken files.new) (texts words.now) file IsRefusedSomewhere }
     ensures file_fault { result.code ≡ 4 → Rose (F.open_faults files.old) (F.open_faults files.new) ⊎ Rose (F.read_faults files.old) (F.read_faults files.new) }
     ensures write_fault { result.code ≡ 5 → Rose (W.faults sink.old) (W.faults sink.new) }
     ensures words_refused { result.code ≡ 7 → (wrong : ℕ) × IsFirstWrong (texts words.now) wrong }
@@ -119,6 +132,9 @@ pub fn run_one<F: Files, W: Sink>(
     // Where nothing fails, the words and the file decide the status.
     ensures complete { IsComplete F.told F.open_faults F.read_faults W.faults (texts words.now) files.old files.new sink.old sink.new result.code }
 {
+    no_text_means_two_problems();
+    no_text_is_refused_and_judged();
+    no_text_is_equivalent_and_attacked();
     let reached = outcome(alloc, words, files);
     report(alloc, sink, reached).1
 }
@@ -127,5 +143,5 @@ pub fn run_one<F: Files, W: Sink>(
 pub fn without_memory<W: Sink>(sink: &mut W) -> Status
     ensures { IsReported W.written W.faults sink.old sink.new Outcome.NoMemory result.code }
 {
-    send(sink, MEMORY_TEXT, Outcome::NoMemory)
+    send(sink, MEMORY_TEXT, &Outcome::NoMemory)
 }

@@ -6,8 +6,6 @@ use std::test::Fail;
 
 const EQUIVALENT: &str = "report 1\nresult: equivalent\n";
 
-const NOT_BUILT: &str = "report 1\nresult: refused\nfile: 2\nat: 1:1\ncause: not built\n";
-
 const SMALLEST: &str = "query trace_equiv(0,0).\n";
 
 // Runs the words with a file F of this text, with these failing calls of the files and of the sink, which takes 4
@@ -31,27 +29,65 @@ fn run(
     Ok((status.code, Vec::from_slice(alloc, sink.written())?))
 }
 
+// The first lines of a file, and the query behind them.
+const DECLARED: &str = "free c, a, b.\nfun senc/2.\n";
+
 #[test]
 fn texts_have_their_reports(rt: HostRuntime) -> Result<(), Fail> {
-    for (text, code, report) in [
-        (SMALLEST, 0, EQUIVALENT),
-        ("query trace_equiv( (0|0) | ((0)),\t0|0|0).", 0, EQUIVALENT),
-        ("(* (0 *) query(**)trace_equiv(0,0) .", 0, EQUIVALENT),
-        ("query trace_equiv(0|,0).\n", 3, NOT_BUILT),
-        ("querytrace_equiv(0,0).\n", 3, NOT_BUILT),
-        ("query trace_equiv(00,0).\n", 3, NOT_BUILT),
-        ("query trace_equiv(1,0).\n", 3, NOT_BUILT),
-        ("query trace_equiv(in(c,x),0).\n", 3, NOT_BUILT),
+    for (query, code, lines) in [
+        ("query trace_equiv(0,0).", 0, "result: equivalent\n"),
+        ("query trace_equiv(new k; out(c,k),new n; out(c,n)).", 0, "result: equivalent\n"),
         (
-            "query trace_equiv(0,0).\nquery trace_equiv(0,0).\n",
-            3,
-            NOT_BUILT,
+            "query trace_equiv(out(c,a),out(c,b)).",
+            1,
+            "result: not equivalent\nnode: /\ntrace 1\nside: left\nout(c,ax1)\n",
         ),
-        ("query trace_equiv(0,0)\n", 3, NOT_BUILT),
-        ("", 3, NOT_BUILT),
+        (
+            "query trace_equiv(new k; out(c,k); out(c,k),new k; new n; out(c,k); out(c,n)).",
+            1,
+            "result: not equivalent\nnode: /\ntrace 1\nside: left\nout(c,ax1)\nout(c,ax2)\n",
+        ),
+        (
+            "query trace_equiv(0,out(c,a)).",
+            1,
+            "result: not equivalent\nnode: /\ntrace 1\nside: right\nout(c,ax1)\n",
+        ),
+        (
+            "query trace_equiv(out(c,a) | out(c,b),out(c,b) | out(c,a)).",
+            0,
+            "result: equivalent\n",
+        ),
+        (
+            "query trace_equiv(in(c,x),0).",
+            3,
+            "result: refused\nfile: 2\nat: 3:19\ncause: not built\n",
+        ),
+        (
+            "query trace_equiv(out(c,k),0).",
+            3,
+            "result: refused\nfile: 2\nat: 3:25\ncause: unknown name\n",
+        ),
+        (
+            "query trace_equiv(0,0)",
+            3,
+            "result: refused\nfile: 2\nat: 3:23\ncause: unexpected end\n",
+        ),
+        (
+            "query trace_equiv(01,0).",
+            3,
+            "result: refused\nfile: 2\nat: 3:19\ncause: bad number\n",
+        ),
+        (
+            "query trace_equiv(!^64 !^64 !^64 0,0).",
+            3,
+            "result: refused\nfile: 2\nat: 3:19\ncause: too large\n",
+        ),
     ] {
-        let (got, wrote) = run(rt.alloc(), &["check", "F"], text.as_bytes(), &[], &[])?;
-        assert_eq!(rt; got, code, "at {text}");
+        let alloc = rt.alloc();
+        let text = format!(in alloc; "{DECLARED}{query}")?;
+        let (got, wrote) = run(alloc, &["check", "F"], text.as_bytes(), &[], &[])?;
+        let report = format!(in alloc; "report 1\n{lines}")?;
+        assert_eq!(rt; got, code, "at {query}");
         assert_eq!(rt; wrote.as_slice(), report.as_bytes());
     }
     Ok(())
@@ -179,6 +215,6 @@ fn deep_and_long_files_are_read(rt: HostRuntime) -> Result<(), Fail> {
     }
     long.extend_from_slice(b",0).")?;
     let (code, _) = run(alloc, &["check", "F"], &long, &[], &[])?;
-    assert_eq!(rt; code, 0);
+    assert_eq!(rt; code, 3);
     Ok(())
 }

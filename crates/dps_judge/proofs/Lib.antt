@@ -1,0 +1,12 @@
+pub mod Rows
+pub mod Fitting
+pub mod PlainNames
+pub mod PlainBodies
+pub mod PlainProcesses
+pub mod PlainPrograms
+pub mod PlainSides
+pub mod PlainTheories
+pub mod OneMeaning
+pub mod SomeMeaning
+pub mod Answering
+pub mod Lines

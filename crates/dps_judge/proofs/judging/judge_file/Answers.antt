@@ -1,0 +1,20 @@
+use Rattle.std.proofs.Common.{refl}
+use Rattle.dps_judge.specs.Judgement.{JudgesFile, IsRefusal, misnamed}
+use Rattle.dps_judge.proofs.Answering.{in_ok, refused_judged}
+use Rattle.dps_judge.proofs.judging.judge_file.Goals as goal
+
+pub judge_program-requires : goal.judge_program-requires
+judge_program-requires c = record { read = c.requires; named = c.in-Ok.ensures }
+
+pub returns-in-Ok : goal.returns-in-Ok
+returns-in-Ok c = c.judge_program.ensures
+
+pub returns-in-Err-Fault : goal.returns-in-Err-Fault
+returns-in-Err-Fault c =
+    let fault = c.in-Err-Fault.fault in
+    let decls = c.args.file.now.declarations.items in
+    in_ok c.refused.result (IsRefusal fault.place c.name_cause_text.result.now) (JudgesFile decls)
+        (λ v h bytes d. refused_judged bytes fault.place c.name_cause_text.result.now (misnamed decls fault d (rw c.in-Err-Fault.field-0-is at c.in-Err-Fault.ensures) refl c.name_cause_text.ensures) v h) c.refused.ensures
+
+pub returns-in-Err-Memory : goal.returns-in-Err-Memory
+returns-in-Err-Memory c = tt

@@ -1,0 +1,5 @@
+use Rattle.dps_judge.proofs.SomeMeaning.{decided}
+use Rattle.dps_judge.proofs.laws.each_text_is_refused_or_judged.Goals as goal
+
+pub returns : goal.returns
+returns c = decided c.each_text_is_file_or_has_fault.ensures

@@ -1,0 +1,24 @@
+-- What is printed for the causes of refused files.
+use Rattle.std.specs.Prelude.{ℕ, List, codes}
+use Rattle.dps_names.specs.declared.fault.NameCause.{NameCause}
+use Rattle.dps_names.specs.declared.fault.NameCause.TheVariants.{NameTwice, ReservedName, UnknownName, WrongArity, WrongKind, LargeArity, PrivateInRule, BadCopies}
+use Rattle.dps_elab.specs.declared.fault.ExpansionCause.{ExpansionCause}
+use Rattle.dps_elab.specs.declared.fault.ExpansionCause.TheVariants.{TooLarge, NotAChannel, PrivateChannel}
+
+abbrev pub name_cause_text : NameCause → List ℕ
+name_cause_text NameTwice = codes "name twice"
+name_cause_text ReservedName = codes "reserved name"
+name_cause_text UnknownName = codes "unknown name"
+name_cause_text WrongArity = codes "wrong arity"
+name_cause_text WrongKind = codes "wrong kind"
+name_cause_text LargeArity = codes "large arity"
+name_cause_text PrivateInRule = codes "private in rule"
+name_cause_text BadCopies = codes "bad copies"
+
+abbrev pub expansion_cause_text : ExpansionCause → List ℕ
+expansion_cause_text TooLarge = codes "too large"
+expansion_cause_text NotAChannel = codes "not a channel"
+expansion_cause_text PrivateChannel = codes "private channel in a term"
+
+abbrev pub not_built : List ℕ
+not_built = codes "not built"

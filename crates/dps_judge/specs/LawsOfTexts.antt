@@ -1,0 +1,68 @@
+-- What a reader may expect of what texts mean. Each of these statements is the contract of a function of the crate.
+use Rattle.std.specs.Prelude.{◌≡◌, ◌⊎◌, ◌≤◌, ◌^◌, ℕ, List, [], None}
+use Rattle.dps_lex.specs.declared.vocabulary.Place.{Place}
+use Rattle.dps_terms.specs.Signature.{Signature, shapes}
+use Rattle.dps_process.specs.Process.{Process, EachBinder}
+use Rattle.dps_process.specs.Problem.{Problem, IsLawfulSide}
+use Rattle.dps_tree.specs.Plain.{IsPlain}
+use Rattle.dps_syntax.specs.declared.tree.Decl.{Decl}
+use Rattle.dps_names.specs.Program.{Program}
+use Rattle.dps_elab.specs.Meaning.{expanded, sides}
+use Rattle.dps_judge.specs.Meaning.{IsDeclared, Says, Means, IsBuilt, MeansEquivalent, theory_of}
+use Rattle.dps_judge.specs.Judgement.{IsRefused, IsAttacked}
+use Rattle.dps_judge.specs.Unbuilt.{first_unbuilt}
+
+-- these are the declarations of some text
+pub record AreOfText (decls : List Decl) : Type 0 where
+  pub bytes : List ℕ
+  pub text : IsDeclared bytes decls
+
+-- Both sides are lawful, and each bound variable has a number of at least 2^63.
+pub record AreLawfulSides (signature : Signature) (p q : Process) : Type 0 where
+  pub left : IsLawfulSide signature p
+  pub right : IsLawfulSide signature q
+  pub left_binders : EachBinder (λ x. 2 ^ 63 ≤ x) p
+  pub right_binders : EachBinder (λ x. 2 ^ 63 ≤ x) q
+
+-- the problem of two sides over a signature, where no rule computes
+abbrev pub unruled_problem : Signature → Process → Process → Problem
+unruled_problem signature left right = record { signature = signature; theory = record { shapes = shapes signature; rules = [] }; left = left; right = right }
+
+-- the same over the signature of a program
+abbrev pub problem_over : Program → Process → Process → Problem
+problem_over program left right = unruled_problem program.signature left right
+
+-- The sides that a text means are lawful.
+abbrev pub TextsMeanLawfulSides : Type 0
+TextsMeanLawfulSides = (bytes : List ℕ) (program : Program) (left right : Process) → Says bytes program → expanded program ≡ sides left right → AreLawfulSides program.signature left right
+
+-- It is a problem of outputs on public channels, and the program has no rule.
+pub record IsPlainlyMeant (program : Program) (left right : Process) : Type 0 where
+  pub plain : IsPlain (problem_over program left right)
+  pub theory : theory_of program ≡ (problem_over program left right).theory
+
+-- A text that uses nothing that is not judged yet means a problem of outputs on public channels, without a rule.
+abbrev pub BuiltTextsArePlain : Type 0
+BuiltTextsArePlain =
+    (bytes : List ℕ) (program : Program) (left right : Process) (said : Says bytes program) → first_unbuilt said.decls ≡ None → expanded program ≡ sides left right
+    → AreLawfulSides program.signature left right → IsPlainlyMeant program left right
+
+-- A text says at most one program.
+abbrev pub NoTextSaysTwoPrograms : Type 0
+NoTextSaysTwoPrograms = (bytes : List ℕ) (program other : Program) → Says bytes program → Says bytes other → program ≡ other
+
+-- A text means at most one problem.
+abbrev pub NoTextMeansTwoProblems : Type 0
+NoTextMeansTwoProblems = (bytes : List ℕ) (problem other : Problem) → Means bytes problem → Means bytes other → problem ≡ other
+
+-- No text is refused and means a problem that is judged.
+abbrev pub NoTextIsRefusedAndJudged : Type 0
+NoTextIsRefusedAndJudged = (bytes : List ℕ) (place : Place) (cause : List ℕ) (problem : Problem) → IsRefused bytes place cause → Means bytes problem → IsBuilt bytes → ⊥
+
+-- No text means an equivalent problem and has an attack.
+abbrev pub NoTextIsEquivalentAndAttacked : Type 0
+NoTextIsEquivalentAndAttacked = (bytes trace : List ℕ) → MeansEquivalent bytes → IsAttacked bytes trace → ⊥
+
+-- Each text is refused, or means a problem that is judged.
+abbrev pub EachTextIsRefusedOrJudged : Type 0
+EachTextIsRefusedOrJudged = (bytes : List ℕ) → ((place : Place) × ((cause : List ℕ) × IsRefused bytes place cause)) ⊎ ((problem : Problem) × Means bytes problem × IsBuilt bytes)

@@ -1,0 +1,6 @@
+pub mod Traces
+pub mod Causes
+pub mod Unbuilt
+pub mod Meaning
+pub mod Judgement
+pub mod LawsOfTexts

@@ -1,0 +1,87 @@
+-- The problem that a text means.
+use Rattle.std.specs.Prelude.{◌≡◌, ℕ, zero, suc, ◌+◌, ◌-◌, List, [], ◌∷◌, ◌++◌, map, Option, Some, None, All}
+use Rattle.dps_terms.specs.Tree.{var, Tree, leaf, app, trees}
+use Rattle.dps_terms.specs.Signature.{Signature, shapes}
+use Rattle.dps_terms.specs.Names.{tuple_name, symbol_named}
+use Rattle.dps_theory.specs.Theory.{Rule, Theory, IsAccepted}
+use Rattle.dps_process.specs.Problem.{Problem}
+use Rattle.dps_process.specs.Traces.{IsEquivalent}
+use Rattle.dps_syntax.specs.declared.tree.Decl.{Decl}
+use Rattle.dps_syntax.specs.Files.{trees_of, HasItsKeyword}
+use Rattle.dps_syntax.specs.LawsOfFiles.{IsTreeOfText}
+use Rattle.dps_names.specs.Program.{Program}
+use Rattle.dps_names.specs.Outcome.{done}
+use Rattle.dps_names.specs.Declarations.{names_of}
+use Rattle.dps_elab.specs.Meaning.{expanded, sides}
+use Rattle.dps_judge.specs.Unbuilt.{first_unbuilt}
+
+-- the variables from the i-th on, so many of them
+abbrev pub variables_from : ℕ → ℕ → List Tree
+variables_from i zero = []
+variables_from i (suc left) = leaf (var i) ∷ variables_from (i + 1) left
+
+-- `proj_i_n((x1,..,xn)) -> xi`, from the i-th on, where this is the number of the tuple's symbol
+abbrev pub projections_from : ℕ → ℕ → ℕ → ℕ → List Rule
+projections_from tuple n i zero = []
+projections_from tuple n i (suc left) =
+    record {
+      left = app (record { number = tuple + i }) (trees (app (record { number = tuple }) (trees (variables_from 0 n)) ∷ []));
+      right = leaf (var (i - 1));
+    }
+    ∷ projections_from tuple n (i + 1) left
+
+abbrev pub projections_at : ℕ → Option ℕ → List Rule
+projections_at n None = []
+projections_at n (Some tuple) = projections_from tuple n 1 n
+
+abbrev pub projections_of : Signature → ℕ → List Rule
+projections_of signature n = projections_at n (symbol_named signature (tuple_name n))
+
+-- the projections of each length that the text writes
+abbrev pub projections : Signature → List Rule
+projections signature =
+    projections_of signature 2 ++ (projections_of signature 3 ++ (projections_of signature 4 ++ (projections_of signature 5
+    ++ (projections_of signature 6 ++ (projections_of signature 7 ++ projections_of signature 8)))))
+
+-- the projections, and the rules of the text
+abbrev pub theory_of : Program → Theory
+theory_of program = record { shapes = shapes program.signature; rules = projections program.signature ++ map (λ r. r.rule) program.rules }
+
+-- The text is a file with these declarations.
+pub record IsDeclared (bytes : List ℕ) (decls : List Decl) : Type 0 where
+  pub tree : IsTreeOfText bytes (trees_of decls)
+  pub keywords : All HasItsKeyword decls
+
+-- The text is a file without a fault of its names, and this is what it says.
+pub record Says (bytes : List ℕ) (program : Program) : Type 0 where
+  pub decls : List Decl
+  pub text : IsDeclared bytes decls
+  pub named : names_of decls ≡ done tt program
+
+-- The text means the problem.
+pub record Means (bytes : List ℕ) (problem : Problem) : Type 0 where
+  pub program : Program
+  pub says : Says bytes program
+  pub signature : problem.signature ≡ program.signature
+  pub theory : problem.theory ≡ theory_of program
+  pub accepted : IsAccepted problem.theory
+  pub written : expanded program ≡ sides problem.left problem.right
+
+-- the text is a file that uses nothing that is not judged yet
+pub record IsBuilt (bytes : List ℕ) : Type 0 where
+  pub decls : List Decl
+  pub text : IsDeclared bytes decls
+  pub built : first_unbuilt decls ≡ None
+
+-- the text means a problem that is judged, and its processes are equivalent, or are not
+pub record MeansEquivalent (bytes : List ℕ) : Type 0 where
+  pub problem : Problem
+  pub means : Means bytes problem
+  pub built : IsBuilt bytes
+  pub equivalent : IsEquivalent problem
+
+pub record MeansDifferent (bytes : List ℕ) : Type 0 where
+  pub problem : Problem
+  pub means : Means bytes problem
+  pub built : IsBuilt bytes
+  pub different : ¬ IsEquivalent problem

@@ -1,5 +1,0 @@
-pub mod Parts
-pub mod Quiet
-pub mod Spans
-pub mod Meanings
-pub mod Lawful
