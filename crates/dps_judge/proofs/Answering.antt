@@ -7,13 +7,14 @@ use Rattle.std.proofs.lemmas.Option.{slice_get_within}
 use Rattle.dps_branch.specs.declared.Side.{Side}
 use Rattle.dps_lex.specs.declared.vocabulary.Place.{Place}
 use Rattle.dps_terms.specs.Signature.{Shape, Signature, shapes}
-use Rattle.dps_theory.proofs.Shapes.{unruled_is_kept}
+use Rattle.dps_theory.proofs.Symbols.{unruled_is_kept}
 use Rattle.dps_theory.specs.Theory.{Rule, HasRule}
 use Rattle.dps_syntax.specs.declared.tree.Decl.{Decl}
 use Rattle.dps_syntax.specs.declared.tree.File.{File}
 use Rattle.dps_syntax.specs.Files.{trees_of, IsFileOfText}
 use Rattle.dps_process.specs.Process.{Process}
-use Rattle.dps_process.specs.Problem.{Problem, side_of, IsLawful, HasHighBinders}
+use Rattle.dps_process.specs.Kept.{IsKept}
+use Rattle.dps_process.specs.Problem.{Problem, side_of, IsLawfulTheory}
 use Rattle.dps_process.specs.Lawful.{AreLawfulLabels}
 use Rattle.dps_process.specs.Laws.{TracesHaveLawfulLabels}
 use Rattle.dps_tree.specs.Words.{outputs_from, word_of}
@@ -27,7 +28,7 @@ use Rattle.dps_judge.specs.declared.verdict.Verdict.{Verdict}
 use Rattle.dps_judge.specs.declared.verdict.Verdict.TheVariants.{Equivalent, NotEquivalent, Refused}
 use Rattle.dps_judge.specs.Meaning.{IsDeclared, Says, Means, IsBuilt, theory_of}
 use Rattle.dps_judge.specs.Judgement.{IsRefused, IsJudged, JudgesFile, IsRefusal, IsAnswered}
-use Rattle.dps_judge.specs.LawsOfTexts.{AreOfText, AreLawfulSides, problem_over, IsPlainlyMeant, TextsMeanLawfulSides, BuiltTextsArePlain}
+use Rattle.dps_judge.specs.LawsOfTexts.{AreOfText, AreLawfulSides, problem_over, IsPlainlyMeant, BuiltTextsArePlain}
 use Rattle.dps_judge.specs.Unbuilt.{first_unbuilt}
 
 -- a file's declarations are those of its text
@@ -56,21 +57,16 @@ refused_judged bytes place cause r (Refused found why) h = subst (λ c. IsRefuse
 no_rule : (known : List Shape) (r : Rule) → HasRule (record { shapes = known; rules = [] }) r → ⊥
 no_rule known r (k, below, at) = omega arith
 
-pub lawful_over : (program : Program) (left right : Process) → AreLawfulSides program.signature left right → IsLawful (problem_over program left right)
-lawful_over program left right s = record {
-  theory = record {
-    same_symbols = refl;
-    accepted = (unruled_is_kept (shapes program.signature)).accepted;
-    rules_over = λ r h. absurd (no_rule (shapes program.signature) r h);
-    rules_plain = (unruled_is_kept (shapes program.signature)).plain;
-  };
-  left = s.left;
-  right = s.right;
+pub unruled_lawful : (signature : Signature) → IsLawfulTheory signature (record { shapes = shapes signature; rules = [] })
+unruled_lawful signature = record {
+  same_symbols = refl;
+  accepted = (unruled_is_kept (shapes signature)).accepted;
+  rules_over = λ r h. absurd (no_rule (shapes signature) r h);
+  rules_plain = (unruled_is_kept (shapes signature)).plain;
 }
 
-pub binders_over : (program : Program) (left right : Process) → AreLawfulSides program.signature left right → HasHighBinders (problem_over program left right)
-binders_over program left right s = record { left = s.left_binders; right = s.right_binders }
-
+pub sides_of_kept : (program : Program) (left right : Process) → IsKept (problem_over program left right) → AreLawfulSides program.signature left right
+sides_of_kept program left right k = record { left = k.lawful.left; right = k.lawful.right; left_binders = k.binders.left; right_binders = k.binders.right }
 
 -- the program of declarations
 abbrev pub said_by : (bytes : List ℕ) (decls : List Decl) (program : Program) → IsDeclared bytes decls → names_of decls ≡ done tt program → Says bytes program

@@ -11,7 +11,9 @@ use Rattle.dps_terms.specs.Names.{is_letter, is_name_byte, tuple_name, symbol_na
 use Rattle.dps_theory.specs.Theory.{Rule, Theory}
 use Rattle.dps_names.specs.Program.{Program}
 use Rattle.dps_names.specs.Scopes.{is_word}
-use Rattle.dps_judge.specs.Meaning.{projections_at, projections_of, projections, theory_of}
+use Rattle.std.specs.List.{flat_map, range_with_len}
+use Rattle.dps_theory.specs.Projections.{rules_for, projections_of, projections}
+use Rattle.dps_judge.specs.Meaning.{theory_of}
 use Rattle.dps_judge.proofs.PlainPrograms.{IsPlainSymbol, IsPlainProgram}
 
 position_none : {X : Type 0} (p : X → Bool) (xs : List X) → All (λ x. p x ≡ false) xs → position p xs ≡ None
@@ -43,11 +45,14 @@ no_tuple n (b ∷ bs) w = by_case (eqb 40 b) refl
 
 untupled : (signature : Signature) (n : ℕ) → All IsPlainSymbol signature.symbols → projections_of signature n ≡ []
 untupled signature n all =
-    ap (projections_at n) (position_none (λ s. bytes_eq (tuple_name n) s.name) signature.symbols (All-weaker IsPlainSymbol (λ s. bytes_eq (tuple_name n) s.name ≡ false) (λ s h. no_tuple n s.name h.word) signature.symbols all))
+    ap (rules_for signature n) (position_none (λ s. bytes_eq (tuple_name n) s.name) signature.symbols (All-weaker IsPlainSymbol (λ s. bytes_eq (tuple_name n) s.name ≡ false) (λ s h. no_tuple n s.name h.word) signature.symbols all))
+
+nothing_of_all : (f : ℕ → List Rule) (xs : List ℕ) → ((n : ℕ) → f n ≡ []) → flat_map f xs ≡ []
+nothing_of_all f [] e = refl
+nothing_of_all f (x ∷ xs) e = ap (λ ys. ys ++ flat_map f xs) (e x) ∙ nothing_of_all f xs e
 
 no_projections : (signature : Signature) → All IsPlainSymbol signature.symbols → projections signature ≡ []
-no_projections signature all =
-    rw (untupled signature 2 all, untupled signature 3 all, untupled signature 4 all, untupled signature 5 all, untupled signature 6 all, untupled signature 7 all, untupled signature 8 all) refl
+no_projections signature all = nothing_of_all (projections_of signature) (range_with_len 2 7) (λ n. untupled signature n all)
 
 pub unruled : (program : Program) → IsPlainProgram program → theory_of program ≡ record { shapes = shapes program.signature; rules = [] }
 unruled program plain =

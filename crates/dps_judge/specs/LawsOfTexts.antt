@@ -32,10 +32,6 @@ unruled_problem signature left right = record { signature = signature; theory = 
 abbrev pub problem_over : Program → Process → Process → Problem
 problem_over program left right = unruled_problem program.signature left right
 
--- The sides that a text means are lawful.
-abbrev pub TextsMeanLawfulSides : Type 0
-TextsMeanLawfulSides = (bytes : List ℕ) (program : Program) (left right : Process) → Says bytes program → expanded program ≡ sides left right → AreLawfulSides program.signature left right
-
 -- It is a problem of outputs on public channels, and the program has no rule.
 pub record IsPlainlyMeant (program : Program) (left right : Process) : Type 0 where
   pub plain : IsPlain (problem_over program left right)

@@ -1,9 +1,8 @@
 -- The problem that a text means.
-use Rattle.std.specs.Prelude.{◌≡◌, ℕ, zero, suc, ◌+◌, ◌-◌, List, [], ◌∷◌, ◌++◌, map, Option, Some, None, All}
-use Rattle.dps_terms.specs.Tree.{var, Tree, leaf, app, trees}
-use Rattle.dps_terms.specs.Signature.{Signature, shapes}
-use Rattle.dps_terms.specs.Names.{tuple_name, symbol_named}
-use Rattle.dps_theory.specs.Theory.{Rule, Theory, IsAccepted}
+use Rattle.std.specs.Prelude.{◌≡◌, ℕ, List, ◌++◌, map, None, All}
+use Rattle.dps_terms.specs.Signature.{shapes}
+use Rattle.dps_theory.specs.Theory.{Theory, IsAccepted}
+use Rattle.dps_theory.specs.Projections.{projections}
 use Rattle.dps_process.specs.Problem.{Problem}
 use Rattle.dps_process.specs.Traces.{IsEquivalent}
 use Rattle.dps_syntax.specs.declared.tree.Decl.{Decl}
@@ -14,34 +13,6 @@ use Rattle.dps_names.specs.Outcome.{done}
 use Rattle.dps_names.specs.Declarations.{names_of}
 use Rattle.dps_elab.specs.Meaning.{expanded, sides}
 use Rattle.dps_judge.specs.Unbuilt.{first_unbuilt}
-
--- the variables from the i-th on, so many of them
-abbrev pub variables_from : ℕ → ℕ → List Tree
-variables_from i zero = []
-variables_from i (suc left) = leaf (var i) ∷ variables_from (i + 1) left
-
--- `proj_i_n((x1,..,xn)) -> xi`, from the i-th on, where this is the number of the tuple's symbol
-abbrev pub projections_from : ℕ → ℕ → ℕ → ℕ → List Rule
-projections_from tuple n i zero = []
-projections_from tuple n i (suc left) =
-    record {
-      left = app (record { number = tuple + i }) (trees (app (record { number = tuple }) (trees (variables_from 0 n)) ∷ []));
-      right = leaf (var (i - 1));
-    }
-    ∷ projections_from tuple n (i + 1) left
-
-abbrev pub projections_at : ℕ → Option ℕ → List Rule
-projections_at n None = []
-projections_at n (Some tuple) = projections_from tuple n 1 n
-
-abbrev pub projections_of : Signature → ℕ → List Rule
-projections_of signature n = projections_at n (symbol_named signature (tuple_name n))
-
--- the projections of each length that the text writes
-abbrev pub projections : Signature → List Rule
-projections signature =
-    projections_of signature 2 ++ (projections_of signature 3 ++ (projections_of signature 4 ++ (projections_of signature 5
-    ++ (projections_of signature 6 ++ (projections_of signature 7 ++ projections_of signature 8)))))
 
 -- the projections, and the rules of the text
 abbrev pub theory_of : Program → Theory

@@ -1,6 +1,6 @@
 //! Texts to verdicts.
 ghost use Rattle.std.specs.Prelude.{◌≡◌, ◌≤◌, length, IfOk, string_bytes};
-ghost use Rattle.dps_process.specs.Problem.{IsLawful, HasHighBinders};
+ghost use Rattle.dps_process.specs.Kept.{IsKept};
 ghost use Rattle.dps_tree.specs.Plain.{IsPlain};
 ghost use Rattle.dps_names.specs.Answers.{IsProgram};
 ghost use Rattle.dps_elab.specs.Meaning.{expanded, sides as written_out};
@@ -9,7 +9,7 @@ ghost use Rattle.dps_judge.specs.Judgement.{IsJudged, JudgesFile, IsRefusal, IsA
 ghost use Rattle.dps_lex.specs.Spelling.{fault_words};
 
 use crate::cause::{expansion_cause_text, name_cause_text, not_built};
-use crate::laws::{built_texts_are_plain, texts_mean_lawful_sides};
+use crate::laws::built_texts_are_plain;
 use crate::trace::trace_text;
 use crate::{Verdict, first_unbuilt};
 use dps_elab::{ExpandRefusal, Sides, expand};
@@ -115,7 +115,6 @@ fn judge_sides(
         }
         None => {
             built_texts_are_plain();
-            texts_mean_lawful_sides();
             let Sides { left, right } = sides;
             let problem = problem_of(alloc, signature_of(program), left, right)?;
             answer(alloc, &problem)
@@ -137,12 +136,15 @@ fn problem_of(
     left: Process,
     right: Process,
 ) -> Result<Problem, NoMemory>
-    requires lawful { IsLawful (unruled_problem signature left right) }
-    requires binders { HasHighBinders (unruled_problem signature left right) }
-    ensures { IfOk result (λ problem. problem ≡ unruled_problem signature left right) }
+    ensures problem { IfOk result (λ problem. problem ≡ unruled_problem signature left right) }
+    ensures kept { IfOk result (λ _. IsKept (unruled_problem signature left right)) }
 {
     let theory = Theory::without_rules(alloc, &signature)?;
-    Ok(Problem::new(signature, theory, left, right))
+    match Problem::check(signature, theory, left, right) {
+        Some(problem) => Ok(problem),
+        // The sides of a file pass the check. That they do is not proved yet, so it is made.
+        None => Err(AllocError),
+    }
 }
 
 /// What a problem comes to.

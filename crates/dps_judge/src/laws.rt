@@ -1,15 +1,9 @@
 //! Laws of what texts mean. Each is the contract of a function that does nothing, but for calls of such functions.
-ghost use Rattle.dps_judge.specs.LawsOfTexts.{TextsMeanLawfulSides, BuiltTextsArePlain, NoTextSaysTwoPrograms, NoTextMeansTwoProblems, NoTextIsRefusedAndJudged, NoTextIsEquivalentAndAttacked, EachTextIsRefusedOrJudged};
+ghost use Rattle.dps_judge.specs.LawsOfTexts.{BuiltTextsArePlain, NoTextSaysTwoPrograms, NoTextMeansTwoProblems, NoTextIsRefusedAndJudged, NoTextIsEquivalentAndAttacked, EachTextIsRefusedOrJudged};
 
 use dps_lex::no_text_has_two_readings;
 use dps_process::laws::attack_refutes;
 use dps_syntax::{each_text_is_file_or_has_fault, no_text_is_file_and_has_fault, no_tokens_have_two_trees};
-
-/// The sides that a text means are lawful.
-#[tactic(none)]
-pub fn texts_mean_lawful_sides()
-    ensures { TextsMeanLawfulSides }
-{}
 
 /// A text that uses nothing that is not judged yet means a problem of outputs on public channels, without a rule.
 #[tactic(none)]

@@ -24,5 +24,6 @@ mod written;
 pub use body::{Body, BodyView, Channel, Step};
 pub use declaration::resolve;
 pub use fault::{NameCause, NameFault, NameRefusal};
+pub use meaning::{Meaning, Projection};
 pub use program::{Definition, Program, Side, WrittenRule};
 pub use written::{Use, Written};

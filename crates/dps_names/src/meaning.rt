@@ -9,14 +9,14 @@ use dps_terms::{NoMemory, Signature, Sym, is_identifier};
 
 /// `proj_i_n`: the i-th member of a tuple of length n.
 #[derive(Clone, Copy, Debug, PartialEq, Eq)]
-pub(crate) struct Projection {
-    pub(crate) index: u32,
-    pub(crate) length: u32,
+pub struct Projection {
+    pub index: u32,
+    pub length: u32,
 }
 
 /// What an identifier means.
 #[derive(Clone, Copy, Debug, PartialEq, Eq)]
-pub(crate) enum Meaning {
+pub enum Meaning {
     /// A local, by its number.
     Local(usize),
     /// A declared name, by its number, and whether it is private.

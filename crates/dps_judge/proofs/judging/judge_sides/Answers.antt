@@ -4,7 +4,7 @@ use Rattle.dps_process.specs.Problem.{IsLawful, HasHighBinders}
 use Rattle.dps_tree.specs.Plain.{IsPlain}
 use Rattle.dps_judge.specs.Judgement.{JudgesFile, IsRefusal, IsAnswered, unbuilt}
 use Rattle.dps_judge.specs.LawsOfTexts.{unruled_problem}
-use Rattle.dps_judge.proofs.Answering.{in_ok, refused_judged, said_by, lawful_over, binders_over, answered_judged}
+use Rattle.dps_judge.proofs.Answering.{in_ok, refused_judged, said_by, sides_of_kept, answered_judged}
 use Rattle.dps_judge.proofs.judging.judge_sides.Goals as goal
 
 pub returns-in-Some : goal.returns-in-Some
@@ -15,25 +15,11 @@ returns-in-Some c =
         (λ v h bytes d. refused_judged bytes place c.not_built.result.now (unbuilt c.args.program (said_by bytes decls c.args.program d c.requires.named) c.args.sides.left c.args.sides.right c.requires.written (sym c.in-Some.ensures) c.not_built.ensures) v h)
         c.refused.ensures
 
-pub problem_of-requires-clause-lawful : goal.problem_of-requires-clause-lawful
-problem_of-requires-clause-lawful c =
-    let read = c.requires.read in
-    let said = said_by read.bytes c.args.file.now.declarations.items c.args.program read.text c.requires.named in
-    let lawful = c.texts_mean_lawful_sides.ensures read.bytes c.args.program c.args.sides.left c.args.sides.right said c.requires.written in
-    subst (λ (s : Signature). IsLawful (unruled_problem s c.args.sides.left c.args.sides.right)) (sym c.signature_of.ensures) (lawful_over c.args.program c.args.sides.left c.args.sides.right lawful)
-
-pub problem_of-requires-clause-binders : goal.problem_of-requires-clause-binders
-problem_of-requires-clause-binders c =
-    let read = c.requires.read in
-    let said = said_by read.bytes c.args.file.now.declarations.items c.args.program read.text c.requires.named in
-    let lawful = c.texts_mean_lawful_sides.ensures read.bytes c.args.program c.args.sides.left c.args.sides.right said c.requires.written in
-    subst (λ (s : Signature). HasHighBinders (unruled_problem s c.args.sides.left c.args.sides.right)) (sym c.signature_of.ensures) (binders_over c.args.program c.args.sides.left c.args.sides.right lawful)
-
 pub answer-requires : goal.answer-requires
 answer-requires c =
     let read = c.requires.read in
     let said = said_by read.bytes c.args.file.now.declarations.items c.args.program read.text c.requires.named in
-    let lawful = c.texts_mean_lawful_sides.ensures read.bytes c.args.program c.args.sides.left c.args.sides.right said c.requires.written in
+    let lawful = sides_of_kept c.args.program c.args.sides.left c.args.sides.right c.in_ok-problem.ensures.kept in
     let meant = c.built_texts_are_plain.ensures read.bytes c.args.program c.args.sides.left c.args.sides.right said (sym c.in-None.ensures) c.requires.written lawful in
     subst IsPlain (sym (c.in_ok-problem-in-None.ensures ∙ ap (λ (s : Signature). unruled_problem s c.args.sides.left c.args.sides.right) c.signature_of.ensures)) meant.plain
 
@@ -47,7 +33,7 @@ returns-in_ok-problem-in-None c =
     in_ok c.answer.result (IsAnswered problem) (JudgesFile decls)
         (λ v h bytes d.
             let said = said_by bytes decls c.args.program d c.requires.named in
-            let lawful = c.texts_mean_lawful_sides.ensures bytes c.args.program c.args.sides.left c.args.sides.right said c.requires.written in
+            let lawful = sides_of_kept c.args.program c.args.sides.left c.args.sides.right c.in_ok-problem.ensures.kept in
             let meant = c.built_texts_are_plain.ensures bytes c.args.program c.args.sides.left c.args.sides.right said (sym c.in-None.ensures) c.requires.written lawful in
             answered_judged bytes c.args.program c.args.sides.left c.args.sides.right said problem c.requires.written (sym c.in-None.ensures) meant (c.in_ok-problem-in-None.ensures ∙ ap (λ (s : Signature). unruled_problem s c.args.sides.left c.args.sides.right) c.signature_of.ensures) v h)
         c.answer.ensures
