@@ -6,7 +6,9 @@ pub enum Outcome {
     /// The two processes of the file are trace equivalent.
     Equivalent,
     /// They are not. The trace is the text of a trace of one of them that the other can not match.
-    NotEquivalent { trace: String },
+    NotEquivalent {
+        trace: String,
+    },
     /// A file is refused, at this line and column, each counted from 1, for the cause with this text. The file is named by
     /// its word's number.
     Refused {
@@ -16,7 +18,10 @@ pub enum Outcome {
         cause: String,
     },
     /// The words, or the file of this word, stopped the run. Words are numbered from 1.
-    Stopped { name: StopName, word: u32 },
+    Stopped {
+        name: StopName,
+        word: u32,
+    },
     /// There was no memory.
     NoMemory,
 }

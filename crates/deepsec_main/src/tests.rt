@@ -36,7 +36,11 @@ const DECLARED: &str = "free c, a, b.\nfun senc/2.\n";
 fn texts_have_their_reports(rt: HostRuntime) -> Result<(), Fail> {
     for (query, code, lines) in [
         ("query trace_equiv(0,0).", 0, "result: equivalent\n"),
-        ("query trace_equiv(new k; out(c,k),new n; out(c,n)).", 0, "result: equivalent\n"),
+        (
+            "query trace_equiv(new k; out(c,k),new n; out(c,n)).",
+            0,
+            "result: equivalent\n",
+        ),
         (
             "query trace_equiv(out(c,a),out(c,b)).",
             1,

@@ -86,8 +86,10 @@ answered_over bytes program l r said written built meant v h = by_verdict v h
       accepted = (unruled_is_kept (shapes program.signature)).accepted;
       written = written;
     }
+
     unused : IsBuilt bytes
     unused = record { decls = said.decls; text = said.text; built = built }
+
     by_verdict : (v : Verdict) → IsAnswered (problem_over program l r) v → IsJudged bytes v
     by_verdict Equivalent h = record { problem = problem_over program l r; means = means; built = unused; equivalent = h }
     by_verdict (NotEquivalent trace) h = record { problem = problem_over program l r; means = means; built = unused; attack = h }

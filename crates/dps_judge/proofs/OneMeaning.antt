@@ -108,11 +108,11 @@ some_or_none place o x e f g = cc
 pub not_refused : NoTextHasTwoReadings → NoTokensHaveTwoTrees → NoTextIsFileAndHasFault → NoTextIsRefusedAndJudged
 not_refused readings trees faults = λ bytes place cause problem r means built.
     elim r [
-    | unread fault first e f ↦ faults bytes (trees_of built.decls) fault built.text.tree first
-    | misnamed decls fault d named e f ↦
-        not_both means.program fault (names_of decls) (names_of means.says.decls) named means.says.named (ap names_of (one_text readings trees bytes decls means.says.decls d means.says.text))
-    | not_written program why said e f ↦
-        not_written_twice problem.left problem.right place why (expanded means.program) (expanded program) means.written e (ap expanded (one_program readings trees bytes means.program program means.says said))
-    | unbuilt program said left right e f g ↦
-        some_or_none place (first_unbuilt said.decls) (first_unbuilt built.decls) f built.built (ap first_unbuilt (one_text readings trees bytes said.decls built.decls said.text built.text))
+      | unread fault first e f ↦ faults bytes (trees_of built.decls) fault built.text.tree first
+      | misnamed decls fault d named e f ↦
+          not_both means.program fault (names_of decls) (names_of means.says.decls) named means.says.named (ap names_of (one_text readings trees bytes decls means.says.decls d means.says.text))
+      | not_written program why said e f ↦
+          not_written_twice problem.left problem.right place why (expanded means.program) (expanded program) means.written e (ap expanded (one_program readings trees bytes means.program program means.says said))
+      | unbuilt program said left right e f g ↦
+          some_or_none place (first_unbuilt said.decls) (first_unbuilt built.decls) f built.built (ap first_unbuilt (one_text readings trees bytes said.decls built.decls said.text built.text))
     ]

@@ -118,8 +118,8 @@ bare_keeps lexeme signature unknown = record { holds = tt }
 tuple_keeps : (count : ℕ) (members : Signature → Outcome Signature (List Written)) (signature : Signature) (lexeme : Lexeme) → leb count 1 ≡ true → OnDone (members signature) (Keeps signature) → OnDone (tuple_of count members signature lexeme) (Keeps signature)
 tuple_keeps count members signature lexeme few h =
     on_if (leb count 1) _ _ (Keeps signature)
-        (λ e. on_then (members signature) _ (Keeps signature) (Keeps signature) h (λ ws after k. record { holds = k }))
-        (λ e. let clash : true ≡ false = sym few ∙ e in cc)
+    (λ e. on_then (members signature) _ (Keeps signature) (Keeps signature) h (λ ws after k. record { holds = k }))
+    (λ e. let clash : true ≡ false = sym few ∙ e in cc)
 
 -- a row of one term has no comma
 
@@ -151,26 +151,26 @@ unopened false b x e h = cc
 bracket_count : (l : Lexeme) (parts : Parts) → IsOf production.Term (token l parts) → is_kind kind.Identifier l ≡ false → opening production.Term (token l parts) ≡ None → leb (count_inner parts) 1 ≡ true
 bracket_count l parts of other unopened_here =
     elim of.one [
-    | inl e ↦
-        let f : Fits (sign_of kind.Identifier ∷ More more.Brackets ∷ []) (token l parts) = fits (subst (λ i. Derives i (token l parts) of.after) e of.derived) in
-        let yes : is_kind kind.Identifier l ≡ true = ap (sameb kinds kind.Identifier) (kind_is kind.Identifier l refl f.0) in
-        cc
-    | inr h ↦ elim h [
       | inl e ↦
-          let f : Fits (sign_of kind.OpenParenthesis ∷ Inner production.Term ∷ More more.Terms ∷ sign_of kind.CloseParenthesis ∷ []) (token l parts) = fits (subst (λ i. Derives i (token l parts) of.after) e of.derived) in
-          let open_kind : is_kind kind.OpenParenthesis l ≡ true = ap (sameb kinds kind.OpenParenthesis) (kind_is kind.OpenParenthesis l refl f.0) in
-          row_count parts f.1 (unopened (is_kind kind.OpenParenthesis l) (has_comma parts) _ open_kind unopened_here)
-      | inr k ↦ absurd k
+          let f : Fits (sign_of kind.Identifier ∷ More more.Brackets ∷ []) (token l parts) = fits (subst (λ i. Derives i (token l parts) of.after) e of.derived) in
+          let yes : is_kind kind.Identifier l ≡ true = ap (sameb kinds kind.Identifier) (kind_is kind.Identifier l refl f.0) in
+          cc
+      | inr h ↦ elim h [
+        | inl e ↦
+            let f : Fits (sign_of kind.OpenParenthesis ∷ Inner production.Term ∷ More more.Terms ∷ sign_of kind.CloseParenthesis ∷ []) (token l parts) = fits (subst (λ i. Derives i (token l parts) of.after) e of.derived) in
+            let open_kind : is_kind kind.OpenParenthesis l ≡ true = ap (sameb kinds kind.OpenParenthesis) (kind_is kind.OpenParenthesis l refl f.0) in
+            row_count parts f.1 (unopened (is_kind kind.OpenParenthesis l) (has_comma parts) _ open_kind unopened_here)
+        | inr k ↦ absurd k
       ]
     ]
 
 term_row : (parts : Parts) → IsTree production.Term parts → IsRow production.Term parts
 term_row parts tree =
     elim tree.of.one [
-    | inl e ↦ row production.Term production.Term tree.of.derived (ap (holds production.Term) e) tree.clean
-    | inr h ↦ elim h [
       | inl e ↦ row production.Term production.Term tree.of.derived (ap (holds production.Term) e) tree.clean
-      | inr k ↦ absurd k
+      | inr h ↦ elim h [
+        | inl e ↦ row production.Term production.Term tree.of.derived (ap (holds production.Term) e) tree.clean
+        | inr k ↦ absurd k
       ]
     ]
 
@@ -178,10 +178,10 @@ term_row parts tree =
 term_begins : (q : Production) (inside parts : Parts) → IsOf production.Term (within q inside parts) → ⊥
 term_begins q inside parts of =
     elim of.one [
-    | inl e ↦ fits (subst (λ i. Derives i (within q inside parts) of.after) e of.derived)
-    | inr h ↦ elim h [
       | inl e ↦ fits (subst (λ i. Derives i (within q inside parts) of.after) e of.derived)
-      | inr k ↦ k
+      | inr h ↦ elim h [
+        | inl e ↦ fits (subst (λ i. Derives i (within q inside parts) of.after) e of.derived)
+        | inr k ↦ k
       ]
     ]
 
@@ -201,8 +201,8 @@ module _ (definitions : List Definition) (scope : Locals) where
     term_keeps (within p inside parts) signature tree = absurd (term_begins p inside parts tree.of)
     term_keeps (token l parts) signature tree =
         on_if (is_kind kind.Identifier l) _ _ (Keeps signature)
-            (λ e. identified_keeps l (count_inner parts) (terms definitions scope parts) signature (meaning signature definitions scope l.text) (meaning_none signature definitions scope l.text (no_projection l e tree.clean.0)) (terms_keep parts signature (term_row (token l parts) tree)))
-            (λ e. tuple_keeps (count_inner parts) (terms definitions scope parts) signature l (bracket_count l parts tree.of e tree.closed) (terms_keep parts signature (term_row (token l parts) tree)))
+        (λ e. identified_keeps l (count_inner parts) (terms definitions scope parts) signature (meaning signature definitions scope l.text) (meaning_none signature definitions scope l.text (no_projection l e tree.clean.0)) (terms_keep parts signature (term_row (token l parts) tree)))
+        (λ e. tuple_keeps (count_inner parts) (terms definitions scope parts) signature l (bracket_count l parts tree.of e tree.closed) (terms_keep parts signature (term_row (token l parts) tree)))
 
     pub terms_keep : (parts : Parts) (signature : Signature) → IsRow production.Term parts → OnDone (terms definitions scope parts signature) (Keeps signature)
     terms_keep none signature r = record { holds = refl }

@@ -76,50 +76,61 @@ unbuilt_kind first k e h = subst (λ x. is_unbuilt production.Pre (of_kind first
 pre_is : (first : Lexeme) (parts : Parts) → IsOf production.Pre (token first parts) → IsClean production.Pre (token first parts) → IsPre first parts
 pre_is first parts of c =
     elim of.one [
-    | inl e ↦
-        let f : Fits (zero_sign ∷ []) (token first parts) = fits (at _ e) in
-        is_zero f.1
-    | inr h ↦ elim h [
-    | inl e ↦
-        let f : Fits (sign_of kind.OpenParenthesis ∷ Inner production.Par ∷ sign_of kind.CloseParenthesis ∷ []) (token first parts) = fits (at _ e) in
-        is_group (kind_is kind.OpenParenthesis first refl f.0) f.1
-    | inr h ↦ elim h [
-    | inl e ↦
-        let f : Fits (sign_of kind.Bang ∷ sign_of kind.Caret ∷ sign_of kind.Number ∷ Inner production.Pre ∷ []) (token first parts) = fits (at _ e) in
-        is_copies (kind_is kind.Bang first refl f.0) f.1
-    | inr h ↦ elim h [
-    | inl e ↦
-        let f : Fits (sign_of kind.New ∷ sign_of kind.Identifier ∷ sign_of kind.Semicolon ∷ Inner production.Pre ∷ []) (token first parts) = fits (at _ e) in
-        is_new (kind_is kind.New first refl f.0) f.1
-    | inr h ↦ elim h [
-    | inl e ↦
-        let f : Fits (sign_of kind.In ∷ sign_of kind.OpenParenthesis ∷ sign_of kind.Identifier ∷ sign_of kind.Comma ∷ Inner production.Pattern ∷ sign_of kind.CloseParenthesis ∷ More more.Then ∷ []) (token first parts) = fits (at _ e) in
-        absurd (input_unbuilt (kind_is kind.In first refl f.0))
-    | inr h ↦ elim h [
-    | inl e ↦
-        let f : Fits (sign_of kind.Out ∷ sign_of kind.OpenParenthesis ∷ sign_of kind.Identifier ∷ sign_of kind.Comma ∷ Inner production.Term ∷ sign_of kind.CloseParenthesis ∷ More more.Then ∷ []) (token first parts) = fits (at _ e) in
-        is_output (kind_is kind.Out first refl f.0) f.1
-    | inr h ↦ elim h [
-    | inl e ↦
-        let f : Fits (sign_of kind.If ∷ Inner production.Term ∷ sign_of kind.Equals ∷ Inner production.Term ∷ sign_of kind.Then ∷ Inner production.Pre ∷ More more.Else ∷ []) (token first parts) = fits (at _ e) in
-        absurd (test_unbuilt (kind_is kind.If first refl f.0))
-    | inr h ↦ elim h [
-    | inl e ↦
-        let f : Fits (sign_of kind.Let ∷ Inner production.Pattern ∷ sign_of kind.Equals ∷ Inner production.Term ∷ sign_of kind.In ∷ Inner production.Pre ∷ More more.Else ∷ []) (token first parts) = fits (at _ e) in
-        absurd (let_unbuilt (kind_is kind.Let first refl f.0))
-    | inr h ↦ elim h [
-    | inl e ↦
-        let f : Fits (sign_of kind.Identifier ∷ More more.Arguments ∷ []) (token first parts) = fits (at _ e) in
-        is_call (kind_is kind.Identifier first refl f.0) (row production.Term production.Pre of.derived (ap (holds production.Term) e) c)
-    | inr h ↦ absurd h
-    ] ] ] ] ] ] ] ] ]
+      | inl e ↦
+          let f : Fits (zero_sign ∷ []) (token first parts) = fits (at _ e) in
+          is_zero f.1
+      | inr h ↦ elim h [
+        | inl e ↦
+            let f : Fits (sign_of kind.OpenParenthesis ∷ Inner production.Par ∷ sign_of kind.CloseParenthesis ∷ []) (token first parts) = fits (at _ e) in
+            is_group (kind_is kind.OpenParenthesis first refl f.0) f.1
+        | inr h ↦ elim h [
+          | inl e ↦
+              let f : Fits (sign_of kind.Bang ∷ sign_of kind.Caret ∷ sign_of kind.Number ∷ Inner production.Pre ∷ []) (token first parts) = fits (at _ e) in
+              is_copies (kind_is kind.Bang first refl f.0) f.1
+          | inr h ↦ elim h [
+            | inl e ↦
+                let f : Fits (sign_of kind.New ∷ sign_of kind.Identifier ∷ sign_of kind.Semicolon ∷ Inner production.Pre ∷ []) (token first parts) = fits (at _ e) in
+                is_new (kind_is kind.New first refl f.0) f.1
+            | inr h ↦ elim h [
+              | inl e ↦
+                  let f : Fits (sign_of kind.In ∷ sign_of kind.OpenParenthesis ∷ sign_of kind.Identifier ∷ sign_of kind.Comma ∷ Inner production.Pattern ∷ sign_of kind.CloseParenthesis ∷ More more.Then ∷ []) (token first parts) = fits (at _ e) in
+                  absurd (input_unbuilt (kind_is kind.In first refl f.0))
+              | inr h ↦ elim h [
+                | inl e ↦
+                    let f : Fits (sign_of kind.Out ∷ sign_of kind.OpenParenthesis ∷ sign_of kind.Identifier ∷ sign_of kind.Comma ∷ Inner production.Term ∷ sign_of kind.CloseParenthesis ∷ More more.Then ∷ []) (token first parts) = fits (at _ e) in
+                    is_output (kind_is kind.Out first refl f.0) f.1
+                | inr h ↦ elim h [
+                  | inl e ↦
+                      let f : Fits (sign_of kind.If ∷ Inner production.Term ∷ sign_of kind.Equals ∷ Inner production.Term ∷ sign_of kind.Then ∷ Inner production.Pre ∷ More more.Else ∷ []) (token first parts) = fits (at _ e) in
+                      absurd (test_unbuilt (kind_is kind.If first refl f.0))
+                  | inr h ↦ elim h [
+                    | inl e ↦
+                        let f : Fits (sign_of kind.Let ∷ Inner production.Pattern ∷ sign_of kind.Equals ∷ Inner production.Term ∷ sign_of kind.In ∷ Inner production.Pre ∷ More more.Else ∷ []) (token first parts) = fits (at _ e) in
+                        absurd (let_unbuilt (kind_is kind.Let first refl f.0))
+                    | inr h ↦ elim h [
+                      | inl e ↦
+                          let f : Fits (sign_of kind.Identifier ∷ More more.Arguments ∷ []) (token first parts) = fits (at _ e) in
+                          is_call (kind_is kind.Identifier first refl f.0) (row production.Term production.Pre of.derived (ap (holds production.Term) e) c)
+                      | inr h ↦ absurd h
+                    ]
+                  ]
+                ]
+              ]
+            ]
+          ]
+        ]
+      ]
+    ]
   where
     at : (alternative : List Symbol) → of.items ≡ alternative → Derives alternative (token first parts) of.after
     at alternative e = subst (λ i. Derives i (token first parts) of.after) e of.derived
+
     input_unbuilt : first.kind ≡ kind.In → ⊥
     input_unbuilt e = let h = unbuilt_kind first kind.In e c.0 in cc
+
     test_unbuilt : first.kind ≡ kind.If → ⊥
     test_unbuilt e = let h = unbuilt_kind first kind.If e c.0 in cc
+
     let_unbuilt : first.kind ≡ kind.Let → ⊥
     let_unbuilt e = let h = unbuilt_kind first kind.Let e c.0 in cc
 
@@ -128,8 +139,8 @@ pre_is first parts of c =
 pub par_row : (parts : Parts) → IsOf production.Par parts → IsClean production.Par parts → IsRow production.Sum parts
 par_row parts of c =
     elim of.one [
-    | inl e ↦ row production.Sum production.Par of.derived (ap (holds production.Sum) e) c
-    | inr h ↦ absurd h
+      | inl e ↦ row production.Sum production.Par of.derived (ap (holds production.Sum) e) c
+      | inr h ↦ absurd h
     ]
 
 choice_none : {parts : Parts} {after : List Word} → Derives (More more.Choice ∷ []) parts after → IsClean production.Sum parts → parts ≡ none
@@ -147,17 +158,17 @@ record IsAlone (p : Production) (inside parts : Parts) : Type 0 where
 sum_alone : (p : Production) (inside parts : Parts) → IsOf production.Sum (within p inside parts) → IsClean production.Sum (within p inside parts) → IsAlone p inside parts
 sum_alone p inside parts of c =
     elim of.one [
-    | inl e ↦
-        let f : Fits (Inner production.Pre ∷ More more.Choice ∷ []) (within p inside parts) = fits (subst (λ i. Derives i (within p inside parts) of.after) e of.derived) in
-        record { same = f.0; of = f.1; alone = choice_none f.2.1 c.2 }
-    | inr h ↦ absurd h
+      | inl e ↦
+          let f : Fits (Inner production.Pre ∷ More more.Choice ∷ []) (within p inside parts) = fits (subst (λ i. Derives i (within p inside parts) of.after) e of.derived) in
+          record { same = f.0; of = f.1; alone = choice_none f.2.1 c.2 }
+      | inr h ↦ absurd h
     ]
 
 sum_begins : (l : Lexeme) (parts : Parts) → IsOf production.Sum (token l parts) → ⊥
 sum_begins l parts of =
     elim of.one [
-    | inl e ↦ fits (subst (λ i. Derives i (token l parts) of.after) e of.derived)
-    | inr h ↦ h
+      | inl e ↦ fits (subst (λ i. Derives i (token l parts) of.after) e of.derived)
+      | inr h ↦ h
     ]
 
 abbrev OneAtMost : Signature → List Body → Signature → Type 0
@@ -178,15 +189,11 @@ as_term p inside e of closed c = record { of = of; closed = subst (λ x. opening
 module _ (definitions : List Definition) where
   -- where there is nothing behind the token, whatever it is
   zero_plain : (scope : Locals) (first : Lexeme) (signature : Signature) → OnDone (process definitions scope (token first none) signature) (Plainly signature)
-  zero_plain scope first signature =
-      on_if (is_kind kind.Identifier first) _ _ (Plainly signature) (λ e. call_plain first 0 (done [] signature) (meaning signature definitions scope first.text) signature (record { holds = refl })) (λ e.
-      on_if (is_kind kind.OpenParenthesis first) _ _ (Plainly signature) (λ e. record { holds = (tt, refl) }) (λ e.
-      on_if (is_kind kind.Bang first) _ _ (Plainly signature) (λ e. record { holds = (tt, refl) }) (λ e.
-      on_if (is_kind kind.New first) _ _ (Plainly signature) (λ e. record { holds = (tt, refl) }) (λ e.
-      on_if (is_kind kind.In first) _ _ (Plainly signature) (λ e. record { holds = (tt, refl) }) (λ e.
-      on_if (is_kind kind.Out first) _ _ (Plainly signature) (λ e. record { holds = (tt, refl) }) (λ e.
-      on_if (is_kind kind.If first) _ _ (Plainly signature) (λ e. record { holds = (tt, refl) }) (λ e.
-      on_if (is_kind kind.Let first) _ _ (Plainly signature) (λ e. record { holds = (tt, refl) }) (λ e. record { holds = (tt, refl) }))))))))
+  zero_plain scope first signature = by first.kind
+    where
+      by : (k : TokenKind) → OnDone (process definitions scope (token (of_kind first k) none) signature) (Plainly signature)
+      by kind.Identifier = call_plain (of_kind first kind.Identifier) 0 (done [] signature) (meaning signature definitions scope first.text) signature (record { holds = refl })
+      by _ = record { holds = (tt, refl) }
 
   zero_of : (scope : Locals) (first : Lexeme) (parts : Parts) (signature : Signature) → Fits [] parts → OnDone (process definitions scope (token first parts) signature) (Plainly signature)
   zero_of scope first none signature f = zero_plain scope first signature
@@ -219,12 +226,12 @@ module _ (definitions : List Definition) where
     process_plain scope (within p inside parts) signature of c = record { holds = (tt, refl) }
     process_plain scope (token first parts) signature of c =
         elim (pre_is first parts of c) [
-        | is_zero f ↦ zero_of scope first parts signature f
-        | is_group e f ↦ subst (IsProcessPlain scope parts signature first) (sym e) (grouped_plain scope parts signature f c.1)
-        | is_copies e f ↦ subst (IsProcessPlain scope parts signature first) (sym e) (repeated_plain scope parts signature f c.1)
-        | is_new e f ↦ subst (IsProcessPlain scope parts signature first) (sym e) (restricted_plain scope parts signature f c.1)
-        | is_output e f ↦ subst (IsProcessPlain scope parts signature first) (sym e) (sent_plain scope parts signature f c.1)
-        | is_call e r ↦ subst (IsProcessPlain scope parts signature first) (sym e) (call_plain (of_kind first kind.Identifier) (count_inner parts) (terms definitions scope parts signature) (meaning signature definitions scope first.text) signature (terms_keep definitions scope parts signature r))
+          | is_zero f ↦ zero_of scope first parts signature f
+          | is_group e f ↦ subst (IsProcessPlain scope parts signature first) (sym e) (grouped_plain scope parts signature f c.1)
+          | is_copies e f ↦ subst (IsProcessPlain scope parts signature first) (sym e) (repeated_plain scope parts signature f c.1)
+          | is_new e f ↦ subst (IsProcessPlain scope parts signature first) (sym e) (restricted_plain scope parts signature f c.1)
+          | is_output e f ↦ subst (IsProcessPlain scope parts signature first) (sym e) (sent_plain scope parts signature f c.1)
+          | is_call e r ↦ subst (IsProcessPlain scope parts signature first) (sym e) (call_plain (of_kind first kind.Identifier) (count_inner parts) (terms definitions scope parts signature) (meaning signature definitions scope first.text) signature (terms_keep definitions scope parts signature r))
         ]
 
     grouped_plain : (scope : Locals) (parts : Parts) (signature : Signature) → Fits (Inner production.Par ∷ sign_of kind.CloseParenthesis ∷ []) parts → IsClean production.Pre parts → OnDone (grouped definitions scope parts signature) (Plainly signature)
@@ -232,14 +239,14 @@ module _ (definitions : List Definition) where
     grouped_plain scope (token l parts) signature f c = record { holds = (tt, refl) }
     grouped_plain scope (within p inside parts) signature f c =
         on_then (parallels definitions scope inside signature) _ (PlainlyAll signature) (Plainly signature)
-            (parallels_plain scope inside signature (par_row inside f.1 (subst (λ x. IsClean x inside) f.0 c.1)))
-            (λ ps after h. record { holds = (joined_plain ps h.0, h.1) })
+        (parallels_plain scope inside signature (par_row inside f.1 (subst (λ x. IsClean x inside) f.0 c.1)))
+        (λ ps after h. record { holds = (joined_plain ps h.0, h.1) })
 
     repeated_plain : (scope : Locals) (parts : Parts) (signature : Signature) → Fits (sign_of kind.Caret ∷ sign_of kind.Number ∷ Inner production.Pre ∷ []) parts → IsClean production.Pre parts → OnDone (repeated definitions scope parts signature) (Plainly signature)
     repeated_plain scope (token caret (token number (within p inside parts))) signature f c =
         on_if (is_number_of_copies number) _ _ (Plainly signature)
-            (λ e. on_then (process definitions scope inside signature) _ (Plainly signature) (Plainly signature) (process_plain scope inside signature f.1.1.1 (as_pre p inside f.1.1.0 c.1.1.1)) (λ q after h. record { holds = h }))
-            (λ e. record { holds = tt })
+        (λ e. on_then (process definitions scope inside signature) _ (Plainly signature) (Plainly signature) (process_plain scope inside signature f.1.1.1 (as_pre p inside f.1.1.0 c.1.1.1)) (λ q after h. record { holds = h }))
+        (λ e. record { holds = tt })
     repeated_plain scope _ signature f c = record { holds = (tt, refl) }
 
     restricted_plain : (scope : Locals) (parts : Parts) (signature : Signature) → Fits (sign_of kind.Identifier ∷ sign_of kind.Semicolon ∷ Inner production.Pre ∷ []) parts → IsClean production.Pre parts → OnDone (restricted definitions scope parts signature) (Plainly signature)

@@ -98,9 +98,9 @@ declare_plain private e none program plain = record { holds = plain }
 declare_plain private e (within p inside parts) program plain = declare_plain private e parts program plain
 declare_plain private e (token l parts) program plain =
     on_if (is_kind kind.Identifier l) _ _ Leaves
-        (λ k. on_then (declaring l program) _ (Declares l program) Leaves (declaring_keeps l program) (λ u after h.
-        declare_plain private e parts _ (named_plain after _ (subst IsPlainProgram (sym h.0) plain) e)))
-        (λ k. declare_plain private e parts program plain)
+    (λ k. on_then (declaring l program) _ (Declares l program) Leaves (declaring_keeps l program) (λ u after h.
+    declare_plain private e parts _ (named_plain after _ (subst IsPlainProgram (sym h.0) plain) e)))
+    (λ k. declare_plain private e parts program plain)
 
 -- none of the tokens is the mark
 unmarked : (parts : Parts) → IsClean production.Decl parts → is_marked_private parts ≡ false
@@ -111,6 +111,7 @@ unmarked (token l parts) c = both_false (is_kind kind.Private l) (is_marked_priv
     both_false : (a b : Bool) → a ≡ false → b ≡ false → a || b ≡ false
     both_false true b e f = cc
     both_false false b e f = f
+
     second : (a b d e f g : Bool) → a || b || d || e || f || g ≡ false → b ≡ false
     second a false d e f g h = refl
     second true true d e f g h = cc
@@ -125,17 +126,17 @@ names_plain _ program c plain = record { holds = plain }
 constructor_plain : (name arity : Lexeme) (program : Program) → is_reserved name.text ≡ false → IsPlainProgram program → OnDone (with_constructor name arity program) Leaves
 constructor_plain name arity program free plain =
     on_if (leb (number_of arity) most_arguments) _ _ Leaves
-        (λ e. record {
-          holds = record {
-            symbols = All-push IsPlainSymbol program.signature.symbols _ plain.symbols (record { kind = refl; word = is_word_of (begins_as_projection name.text) (is_word name.text) (leb (length name.text) 64) (not (is_handle name.text)) free });
-            names = plain.names;
-            rules = plain.rules;
-            definitions = plain.definitions;
-            left = plain.left;
-            right = plain.right;
-          };
-        })
-        (λ e. record { holds = tt })
+    (λ e. record {
+      holds = record {
+        symbols = All-push IsPlainSymbol program.signature.symbols _ plain.symbols (record { kind = refl; word = is_word_of (begins_as_projection name.text) (is_word name.text) (leb (length name.text) 64) (not (is_handle name.text)) free });
+        names = plain.names;
+        rules = plain.rules;
+        definitions = plain.definitions;
+        left = plain.left;
+        right = plain.right;
+      };
+    })
+    (λ e. record { holds = tt })
 
 functions_plain : (parts : Parts) (program : Program) → IsPlainProgram program → OnDone (functions parts program) Leaves
 functions_plain (token word (token name (token slash (token arity parts)))) program plain =
@@ -159,8 +160,8 @@ in_signature_plain program (faulty fault) h = record { holds = tt }
 body_plain : (parts : Parts) (scope : Locals) (program : Program) → IsRow production.Sum parts → OnDone (body_of parts scope program) (Bodily program)
 body_plain parts scope program r =
     on_then (in_signature program (parallels program.definitions scope parts program.signature)) _ (Bodies_of program) (Bodily program)
-        (in_signature_plain program _ (parallels_plain program.definitions scope parts program.signature r))
-        (λ ps after h. record { holds = (joined_plain ps h.0, h.1) })
+    (in_signature_plain program _ (parallels_plain program.definitions scope parts program.signature r))
+    (λ ps after h. record { holds = (joined_plain ps h.0, h.1) })
 
 define_with_plain : (name : Lexeme) (texts : List (List ℕ)) (inside : Parts) (program : Program) → IsRow production.Sum inside → IsPlainProgram program → OnDone (define_with name texts inside program) Leaves
 define_with_plain name texts inside program r plain =
@@ -185,8 +186,8 @@ parameters_keep none texts program = record { holds = refl }
 parameters_keep (within p inside parts) texts program = parameters_keep parts texts program
 parameters_keep (token l parts) texts program =
     on_if (is_kind kind.Identifier l) _ _ (Texts_of program)
-        (λ e. on_if (is_among l.text texts) _ _ (Texts_of program) (λ k. record { holds = tt }) (λ k. parameters_keep parts (texts ++ l.text ∷ []) program))
-        (λ e. parameters_keep parts texts program)
+    (λ e. on_if (is_among l.text texts) _ _ (Texts_of program) (λ k. record { holds = tt }) (λ k. parameters_keep parts (texts ++ l.text ∷ []) program))
+    (λ e. parameters_keep parts texts program)
 
 -- a declaration, or the query
 pub data IsDeclaration (parts : Parts) : Type 0 where
@@ -209,8 +210,8 @@ Query_symbols = sign_of kind.Query ∷ sign_of kind.TraceEquiv ∷ sign_of kind.
 query_fits : (parts : Parts) → IsOf production.Query parts → Fits Query_symbols parts
 query_fits parts of =
     elim of.one [
-    | inl e ↦ fits (subst (λ i. Derives i parts of.after) e of.derived)
-    | inr h ↦ absurd h
+      | inl e ↦ fits (subst (λ i. Derives i parts of.after) e of.derived)
+      | inr h ↦ absurd h
     ]
 
 -- a declaration whose second part is a token is one of functions or of a process
@@ -221,23 +222,27 @@ data IsLong (parts : Parts) : Type 0 where
 long : (word name : Lexeme) (parts : Parts) → IsOf production.Decl (token word (token name parts)) → IsLong (token word (token name parts))
 long word name parts of =
     elim of.one [
-    | inl e ↦
-        let f : Fits (sign_of kind.Free ∷ Inner production.Ids ∷ More more.Private ∷ sign_of kind.Dot ∷ []) (token word (token name parts)) = fits (at _ e) in
-        absurd f.1
-    | inr h ↦ elim h [
-    | inl e ↦
-        let f : Fits (sign_of kind.Const ∷ Inner production.Ids ∷ More more.Private ∷ sign_of kind.Dot ∷ []) (token word (token name parts)) = fits (at _ e) in
-        absurd f.1
-    | inr h ↦ elim h [
-    | inl e ↦ of_functions (fits (at _ e))
-    | inr h ↦ elim h [
-    | inl e ↦
-        let f : Fits (sign_of kind.Reduc ∷ Inner production.Rule ∷ More more.Rules ∷ sign_of kind.Dot ∷ []) (token word (token name parts)) = fits (at _ e) in
-        absurd f.1
-    | inr h ↦ elim h [
-    | inl e ↦ of_process (fits (at _ e))
-    | inr h ↦ absurd h
-    ] ] ] ] ]
+      | inl e ↦
+          let f : Fits (sign_of kind.Free ∷ Inner production.Ids ∷ More more.Private ∷ sign_of kind.Dot ∷ []) (token word (token name parts)) = fits (at _ e) in
+          absurd f.1
+      | inr h ↦ elim h [
+        | inl e ↦
+            let f : Fits (sign_of kind.Const ∷ Inner production.Ids ∷ More more.Private ∷ sign_of kind.Dot ∷ []) (token word (token name parts)) = fits (at _ e) in
+            absurd f.1
+        | inr h ↦ elim h [
+          | inl e ↦ of_functions (fits (at _ e))
+          | inr h ↦ elim h [
+            | inl e ↦
+                let f : Fits (sign_of kind.Reduc ∷ Inner production.Rule ∷ More more.Rules ∷ sign_of kind.Dot ∷ []) (token word (token name parts)) = fits (at _ e) in
+                absurd f.1
+            | inr h ↦ elim h [
+              | inl e ↦ of_process (fits (at _ e))
+              | inr h ↦ absurd h
+            ]
+          ]
+        ]
+      ]
+    ]
   where
     at : (alternative : List GrammarSymbol) → of.items ≡ alternative → Derives alternative (token word (token name parts)) of.after
     at alternative e = subst (λ i. Derives i (token word (token name parts)) of.after) e of.derived
@@ -245,8 +250,8 @@ long word name parts of =
 ids_row : (p : Production) (parts : Parts) → IsOf production.Ids parts → IsClean p parts → IsRow production.Sum parts
 ids_row p parts of c =
     elim of.one [
-    | inl e ↦ row production.Sum p of.derived (ap (holds production.Sum) e) c
-    | inr h ↦ absurd h
+      | inl e ↦ row production.Sum p of.derived (ap (holds production.Sum) e) c
+      | inr h ↦ absurd h
     ]
 
 sum_row : (p : Production) (parts : Parts) → p ≡ production.Par → IsOf production.Par parts → IsClean p parts → IsRow production.Sum parts
@@ -257,10 +262,10 @@ first_row : (word name bracket close equals : Lexeme) (p q : Production) (ids in
 first_row word name bracket close equals p q ids inside parts (as_query of c) = absurd (query_fits _ of).1.1.1.2.1
 first_row word name bracket close equals p q ids inside parts (as_decl of c) =
     elim (long word name _ of) [
-    | of_functions f ↦ absurd f.1.1.1
-    | of_process f ↦ elim (parameters_fit f.1.1.1) [
-      | inl g ↦ absurd g.1.2.1
-      | inr g ↦ sum_row q inside g.1.2.1.1.0 g.1.2.1.1.1 c.1.1.1.2.1.1.1
+      | of_functions f ↦ absurd f.1.1.1
+      | of_process f ↦ elim (parameters_fit f.1.1.1) [
+        | inl g ↦ absurd g.1.2.1
+        | inr g ↦ sum_row q inside g.1.2.1.1.0 g.1.2.1.1.1 c.1.1.1.2.1.1.1
       ]
     ]
 
@@ -269,10 +274,10 @@ second_row : (word name equals : Lexeme) (p : Production) (inside parts : Parts)
 second_row word name equals p inside parts (as_query of c) = let f = query_fits _ of in sum_row p inside f.1.1.1.0 f.1.1.1.1 c.1.1.1.1
 second_row word name equals p inside parts (as_decl of c) =
     elim (long word name _ of) [
-    | of_functions f ↦ absurd f.1.1.1
-    | of_process f ↦ elim (parameters_fit f.1.1.1) [
-      | inl g ↦ sum_row p inside g.1.0 g.1.1 c.1.1.1.1
-      | inr g ↦ ids_row p inside g.1.1 c.1.1.1.1
+      | of_functions f ↦ absurd f.1.1.1
+      | of_process f ↦ elim (parameters_fit f.1.1.1) [
+        | inl g ↦ sum_row p inside g.1.0 g.1.1 c.1.1.1.1
+        | inr g ↦ ids_row p inside g.1.1 c.1.1.1.1
       ]
     ]
 
@@ -297,10 +302,10 @@ query_rows word relation bracket comma p q first second parts (as_query of c) =
     (sum_row p first f.1.1.1.0 f.1.1.1.1 c.1.1.1.1, sum_row q second f.1.1.1.2.1.0 f.1.1.1.2.1.1 c.1.1.1.2.1.1)
 query_rows word relation bracket comma p q first second parts (as_decl of c) =
     elim (long word relation _ of) [
-    | of_functions f ↦ absurd f.1.1.1
-    | of_process f ↦ elim (parameters_fit f.1.1.1) [
-      | inl g ↦ absurd g.1.2.1
-      | inr g ↦ absurd g.1.2.1
+      | of_functions f ↦ absurd f.1.1.1
+      | of_process f ↦ elim (parameters_fit f.1.1.1) [
+        | inl g ↦ absurd g.1.2.1
+        | inr g ↦ absurd g.1.2.1
       ]
     ]
 
@@ -372,8 +377,8 @@ declarations_plain : (decls : List Decl) (program : Program) → AreDeclarations
 declarations_plain [] program f c k plain = record { holds = plain }
 declarations_plain (decl ∷ decls) program f c k plain =
     on_then (declaration decl program) _ Leaves Leaves
-        (declaration_plain decl program (All-head HasItsKeyword decl decls k) (one_declaration (tree_of decl).production (tree_of decl).parts f.0 c.1) plain)
-        (λ u after h. declarations_plain decls after f.1 c.2 (All-tail HasItsKeyword decl decls k) h)
+    (declaration_plain decl program (All-head HasItsKeyword decl decls k) (one_declaration (tree_of decl).production (tree_of decl).parts f.0 c.1) plain)
+    (λ u after h. declarations_plain decls after f.1 c.2 (All-tail HasItsKeyword decl decls k) h)
 
 pub file_plain : (decls : List Decl) (program : Program) → Derives (More more.Declarations ∷ Inner production.Query ∷ []) (trees_of decls) [] → All HasItsKeyword decls → first_unbuilt decls ≡ None → names_of decls ≡ done tt program → IsPlainProgram program
 file_plain decls program d k e named =

@@ -77,8 +77,8 @@ meanings_put_out : (privates : List ℕ) (definitions : List Definition) (earlie
 meanings_put_out privates [] earlier all h = all
 meanings_put_out privates (d ∷ definitions) earlier all h =
     meanings_put_out privates definitions (earlier ++ (λ arguments. expand privates earlier d.body arguments) ∷ [])
-        (put_out_more earlier (λ arguments. expand privates earlier d.body arguments) all (λ arguments. record { alone = λ next. expand_puts_out privates earlier all d.body arguments (All-head HasPlainBody d definitions h) next }))
-        (All-tail HasPlainBody d definitions h)
+    (put_out_more earlier (λ arguments. expand privates earlier d.body arguments) all (λ arguments. record { alone = λ next. expand_puts_out privates earlier all d.body arguments (All-head HasPlainBody d definitions h) next }))
+    (All-tail HasPlainBody d definitions h)
 
 side_puts_out : (program : Program) (p : Body) → IsPlainProgram program → IsPlainBody p → (next : _) → HasOutputs (expansion program p next).process
 side_puts_out program p plain h next =
@@ -106,7 +106,7 @@ expanded_sides program x y e =
     let l = left_expansion program in
     let r = right_expansion program in
     channels_sides l.process r.process x y (l.channels ++ r.channels) (l.privates ++ r.privates) (first_such is_no_channel (l.channels ++ r.channels))
-        (if_sides (is_too_large r.process) _ _ _ x y (if_sides (is_too_large l.process) _ _ _ x y e))
+    (if_sides (is_too_large r.process) _ _ _ x y (if_sides (is_too_large l.process) _ _ _ x y e))
 
 -- each channel is public
 

@@ -20,7 +20,7 @@ use Rattle.dps_syntax.specs.Tree.{Derivation, Parts, none, token, inner as withi
 use Rattle.dps_syntax.specs.Grammar.{Derives, done as nothing, sign, inner, taken, left, sign_of}
 use Rattle.dps_syntax.specs.Files.{tree_of, first_kind, trees_of, HasItsKeyword}
 use Rattle.dps_syntax.specs.LawsOfFiles.{IsTreeOfText, EachTextIsFileOrHasFault}
-use Rattle.dps_theory.proofs.Shapes.{unruled_is_kept}
+use Rattle.dps_theory.proofs.Symbols.{unruled_is_kept}
 use Rattle.dps_terms.specs.Signature.{shapes}
 use Rattle.dps_process.specs.Process.{Process}
 use Rattle.dps_process.specs.Problem.{Problem}
@@ -52,12 +52,12 @@ opens_with k e (sign {lexeme = l} t d) = ap Some (kind_is k l e t)
 query_made : (parts : Parts) → IsOf production.Query parts → IsMade production.Query parts
 query_made parts of =
     elim of.one [
-    | inl e ↦ record {
+      | inl e ↦ record {
         decl = Query (record { production = production.Query; parts = parts });
         tree = refl;
         keyword = opens_with kind.Query refl (subst (λ i. Derives i parts of.after) e of.derived);
       }
-    | inr h ↦ absurd h
+      | inr h ↦ absurd h
     ]
 
 abbrev tree_with : Parts → Derivation
@@ -66,17 +66,21 @@ tree_with parts = record { production = production.Decl; parts = parts }
 decl_made : (parts : Parts) → IsOf production.Decl parts → IsMade production.Decl parts
 decl_made parts of =
     elim of.one [
-    | inl e ↦ record { decl = Free (tree_with parts); tree = refl; keyword = opens_with kind.Free refl (at _ e) }
-    | inr h ↦ elim h [
-    | inl e ↦ record { decl = Const (tree_with parts); tree = refl; keyword = opens_with kind.Const refl (at _ e) }
-    | inr h ↦ elim h [
-    | inl e ↦ record { decl = Fun (tree_with parts); tree = refl; keyword = opens_with kind.Fun refl (at _ e) }
-    | inr h ↦ elim h [
-    | inl e ↦ record { decl = Reduc (tree_with parts); tree = refl; keyword = opens_with kind.Reduc refl (at _ e) }
-    | inr h ↦ elim h [
-    | inl e ↦ record { decl = Define (tree_with parts); tree = refl; keyword = opens_with kind.Let refl (at _ e) }
-    | inr h ↦ absurd h
-    ] ] ] ] ]
+      | inl e ↦ record { decl = Free (tree_with parts); tree = refl; keyword = opens_with kind.Free refl (at _ e) }
+      | inr h ↦ elim h [
+        | inl e ↦ record { decl = Const (tree_with parts); tree = refl; keyword = opens_with kind.Const refl (at _ e) }
+        | inr h ↦ elim h [
+          | inl e ↦ record { decl = Fun (tree_with parts); tree = refl; keyword = opens_with kind.Fun refl (at _ e) }
+          | inr h ↦ elim h [
+            | inl e ↦ record { decl = Reduc (tree_with parts); tree = refl; keyword = opens_with kind.Reduc refl (at _ e) }
+            | inr h ↦ elim h [
+              | inl e ↦ record { decl = Define (tree_with parts); tree = refl; keyword = opens_with kind.Let refl (at _ e) }
+              | inr h ↦ absurd h
+            ]
+          ]
+        ]
+      ]
+    ]
   where
     at : (alternative : List Symbol) → of.items ≡ alternative → Derives alternative parts of.after
     at alternative e = subst (λ i. Derives i parts of.after) e of.derived
@@ -112,16 +116,17 @@ decided_built bytes program said l r written (Some place) e = inl (place, (not_b
 decided_built bytes program said l r written None e =
     let plain = file_plain said.decls program said.text.tree.derived said.text.keywords e said.named in
     inr (
-        problem_over program l r,
-        record {
-          program = program;
-          says = said;
-          signature = refl;
-          theory = sym (unruled program plain);
-          accepted = (unruled_is_kept (shapes program.signature)).accepted;
-          written = written;
-        },
-        record { decls = said.decls; text = said.text; built = e })
+      problem_over program l r,
+      record {
+        program = program;
+        says = said;
+        signature = refl;
+        theory = sym (unruled program plain);
+        accepted = (unruled_is_kept (shapes program.signature)).accepted;
+        written = written;
+      },
+      record { decls = said.decls; text = said.text; built = e },
+    )
 
 decided_written : (bytes : List ℕ) (program : Program) → Says bytes program → (o : Expanded) → expanded program ≡ o → IsDecided bytes
 decided_written bytes program said (refused place why) e = inl (place, (expansion_cause_text why, not_written program why said e refl))
@@ -134,8 +139,8 @@ decided_named bytes decls d (done u program) e = decided_written bytes program (
 pub decided : EachTextIsFileOrHasFault → EachTextIsRefusedOrJudged
 decided each = λ bytes.
     elim (each bytes) [
-    | inl (trees, t) ↦
-        let m = all_made t.derived in
-        decided_named bytes m.decls (record { tree = subst (IsTreeOfText bytes) (sym m.same) t; keywords = m.keywords }) (names_of m.decls) refl
-    | inr (fault, first) ↦ inl (record { line = fault.line; column = fault.column }, (fault_words fault.kind, unread fault first refl refl))
+      | inl (trees, t) ↦
+          let m = all_made t.derived in
+          decided_named bytes m.decls (record { tree = subst (IsTreeOfText bytes) (sym m.same) t; keywords = m.keywords }) (names_of m.decls) refl
+      | inr (fault, first) ↦ inl (record { line = fault.line; column = fault.column }, (fault_words fault.kind, unread fault first refl refl))
     ]

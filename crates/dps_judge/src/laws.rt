@@ -3,7 +3,9 @@ ghost use Rattle.dps_judge.specs.LawsOfTexts.{BuiltTextsArePlain, NoTextSaysTwoP
 
 use dps_lex::no_text_has_two_readings;
 use dps_process::laws::attack_refutes;
-use dps_syntax::{each_text_is_file_or_has_fault, no_text_is_file_and_has_fault, no_tokens_have_two_trees};
+use dps_syntax::{
+    each_text_is_file_or_has_fault, no_text_is_file_and_has_fault, no_tokens_have_two_trees,
+};
 
 /// A text that uses nothing that is not judged yet means a problem of outputs on public channels, without a rule.
 #[tactic(none)]

@@ -11,6 +11,3 @@ mod verdict;
 pub use judging::judge;
 pub use unbuilt::first_unbuilt;
 pub use verdict::Verdict;
-
-#[cfg(test)]
-mod tests;

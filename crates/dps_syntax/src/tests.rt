@@ -184,7 +184,8 @@ query trace_equiv(!^2 Count | Voter(yes,s1) | Voter(no,s2),
 ";
 
 /// Whether one sees whom a host knows: guest and host greet each other by sealed letters, and strangers get a decoy.
-const GREETINGS: &[u8] = b"(* Guest to host: {n,pk(guest)}. Host to guest: {n,m,pk(host)}, or a decoy (* which no one opens *). *)
+const GREETINGS: &[u8] =
+    b"(* Guest to host: {n,pk(guest)}. Host to guest: {n,m,pk(host)}, or a decoy (* which no one opens *). *)
 free net.
 free ska, ske, skh [private].
 fun seal/3, pk/1.
@@ -203,7 +204,8 @@ query trace_equiv(Opening(ska,ska), Opening(ske,ska)).
 ";
 
 /// Whether passports with keys from their printed page can be told from one another.
-const PASSPORTS: &[u8] = b"(* The reader sees the page, which gives fresh keys on a private channel. Signed data are known. *)
+const PASSPORTS: &[u8] =
+    b"(* The reader sees the page, which gives fresh keys on a private channel. Signed data are known. *)
 free air.
 free page, issuer [private].
 const first, second', read, fault.

@@ -13,13 +13,13 @@ judge_file-requires c = of_text c.args.bytes.now c.in-Ok.file c.in-Ok.ensures
 pub returns-in-Ok : goal.returns-in-Ok
 returns-in-Ok c =
     in_ok c.judge_file.result (JudgesFile c.in-Ok.file.declarations.items) (IsJudged c.args.bytes.now)
-        (λ v h. h c.args.bytes.now (declared c.args.bytes.now c.in-Ok.file c.in-Ok.ensures)) c.judge_file.ensures
+    (λ v h. h c.args.bytes.now (declared c.args.bytes.now c.in-Ok.file c.in-Ok.ensures)) c.judge_file.ensures
 
 pub returns-in-Err-Fault : goal.returns-in-Err-Fault
 returns-in-Err-Fault c =
     let fault = c.in-Err-Fault.fault in
     in_ok c.unread.result (IsRefusal (record { line = fault.line; column = fault.column }) (fault_words fault.kind)) (IsJudged c.args.bytes.now)
-        (λ v h. refused_judged c.args.bytes.now (record { line = fault.line; column = fault.column }) (fault_words fault.kind) (unread fault (rw c.in-Err-Fault.field-0-is at c.in-Err-Fault.ensures) refl refl) v h) c.unread.ensures
+    (λ v h. refused_judged c.args.bytes.now (record { line = fault.line; column = fault.column }) (fault_words fault.kind) (unread fault (rw c.in-Err-Fault.field-0-is at c.in-Err-Fault.ensures) refl refl) v h) c.unread.ensures
 
 pub returns-in-Err-Memory : goal.returns-in-Err-Memory
 returns-in-Err-Memory c = tt

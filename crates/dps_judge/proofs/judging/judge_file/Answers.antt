@@ -14,7 +14,7 @@ returns-in-Err-Fault c =
     let fault = c.in-Err-Fault.fault in
     let decls = c.args.file.now.declarations.items in
     in_ok c.refused.result (IsRefusal fault.place c.name_cause_text.result.now) (JudgesFile decls)
-        (λ v h bytes d. refused_judged bytes fault.place c.name_cause_text.result.now (misnamed decls fault d (rw c.in-Err-Fault.field-0-is at c.in-Err-Fault.ensures) refl c.name_cause_text.ensures) v h) c.refused.ensures
+    (λ v h bytes d. refused_judged bytes fault.place c.name_cause_text.result.now (misnamed decls fault d (rw c.in-Err-Fault.field-0-is at c.in-Err-Fault.ensures) refl c.name_cause_text.ensures) v h) c.refused.ensures
 
 pub returns-in-Err-Memory : goal.returns-in-Err-Memory
 returns-in-Err-Memory c = tt

@@ -17,7 +17,7 @@ returns-in-Err-Fault c =
     let why : IsRefused_by c.in-Err-Fault.field-0 (expanded c.args.program) = c.in-Err-Fault.ensures.refused in
     let decls = c.args.file.now.declarations.items in
     in_ok c.refused.result (IsRefusal fault.place c.expansion_cause_text.result.now) (JudgesFile decls)
-        (λ v h bytes d. refused_judged bytes fault.place c.expansion_cause_text.result.now (not_written c.args.program fault.cause (said_by bytes decls c.args.program d c.requires.named) (rw c.in-Err-Fault.field-0-is at why) c.expansion_cause_text.ensures) v h) c.refused.ensures
+    (λ v h bytes d. refused_judged bytes fault.place c.expansion_cause_text.result.now (not_written c.args.program fault.cause (said_by bytes decls c.args.program d c.requires.named) (rw c.in-Err-Fault.field-0-is at why) c.expansion_cause_text.ensures) v h) c.refused.ensures
 
 pub returns-in-Err-Memory : goal.returns-in-Err-Memory
 returns-in-Err-Memory c = tt
