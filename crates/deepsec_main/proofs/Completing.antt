@@ -143,6 +143,31 @@ module _ (one : IsOneVerdict) {F W : Type 0} (told : F → List ℕ → Option (
     words_refused = λ n f. status_or outcome status 7 (own_status outcome status r f.no_write_fault) (planless_status outcome n c);
   }
 
+  -- status 3 is that of a refused file
+  refused_read : (outcome : Outcome) → Caused outcome → status_of outcome ≡ 3 → (number : ℕ) × HasReadText (told old) (taken new) words number IsRefusedSomewhere
+  refused_read Equivalent c e = absurd (omega (arith, e))
+  refused_read (NotEquivalent trace) c e = absurd (omega (arith, e))
+  refused_read (Refused file line column cause) c e = (
+    file,
+    record {
+      planned = c.planned;
+      text = c.text;
+      told_text = c.told_text;
+      taken_all = c.taken_all;
+      short = c.short;
+      means = (record { line = line; column = column }, (string_bytes cause, c.means));
+    },
+  )
+  refused_read (Stopped TooLong word) c e = absurd (omega (arith, e))
+  refused_read (Stopped OpenFault word) c e = absurd (omega (arith, e))
+  refused_read (Stopped ReadFault word) c e = absurd (omega (arith, e))
+  refused_read (Stopped WordsRefused word) c e = absurd (omega (arith, e))
+  refused_read NoMemory c e = absurd (omega (arith, e))
+
+  pub refused_only : (outcome : Outcome) (status : ℕ) → Caused outcome → IsReported written faults before after outcome status → status ≡ 3 → (number : ℕ) × HasReadText (told old) (taken new) words number IsRefusedSomewhere
+  refused_only outcome status c (inl w) e = refused_read outcome c (sym w.status_is ∙ e)
+  refused_only outcome status c (inr w) e = absurd (let k : status ≡ 5 = w.status_is in omega (arith, k, e))
+
   -- want of memory needs no cause
   pub caused_kept : (one two : Outcome) → (two ≡ one) ⊎ (two ≡ NoMemory) → Caused one → Caused two
   caused_kept one two (inl e) c = subst Caused (sym e) c
