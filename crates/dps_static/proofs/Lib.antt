@@ -2,3 +2,13 @@ pub mod Ways
 pub mod Following
 pub mod Frames
 pub mod Digesting
+pub mod Covering
+pub mod Stepping
+pub mod Moving
+pub mod Opening
+pub mod Carrying
+pub mod Expanding
+pub mod Listing
+pub mod Separating
+pub mod Closing
+pub mod Comparing

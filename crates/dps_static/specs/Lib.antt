@@ -4,3 +4,4 @@ pub mod Follows
 pub mod Passing
 pub mod Handles
 pub mod Answer
+pub mod Generic

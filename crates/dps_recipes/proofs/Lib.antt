@@ -1,0 +1,4 @@
+pub mod Fitting
+pub mod Trying
+pub mod Applying
+pub mod Valuing
