@@ -1,14 +1,13 @@
 -- Chains of bindings: the empty one, and one more binding.
-use Rattle.std.proofs.Common.{◌≡◌, ℕ, zero, suc, ◌+◌, ◌<◌, ◌≤◌, List, [], ◌∷◌, ◌++◌, Bool, true, false, nat_eq, length, Option, Some, None, refl, sym, ◌∙◌, ap, arith, ◌⊎◌, inl, inr, subst, if◌then◌else◌}
+use Rattle.std.proofs.Common.{◌≡◌, ℕ, suc, ◌<◌, ◌≤◌, List, [], ◌∷◌, ◌++◌, Bool, true, false, nat_eq, length, Some, None, refl, sym, ◌∙◌, ap, arith, ◌⊎◌, inl, inr, subst, if◌then◌else◌}
 use Rattle.std.proofs.lemmas.Bool.{cases_Bool, eqb-true, eq-eqb}
-use Rattle.dps_terms.specs.declared.Sym.{Sym}
-use Rattle.dps_terms.specs.Tree.{Leaf, public, private, var, ax, entry, rigid, Tree, Trees, leaf, app, StandsIn, itself}
-use Rattle.dps_terms.specs.Replace.{substitute, variables_to}
+use Rattle.dps_terms.specs.Tree.{public, private, var, ax, entry, rigid, Tree, leaf, app, StandsIn, itself}
+use Rattle.dps_terms.specs.Replace.{substitute}
 use Rattle.dps_terms.specs.Bindings.{bound, image}
 use Rattle.dps_unify.specs.Order.{Precedes}
-use Rattle.dps_unify.specs.Chain.{Fulfils, and_then, solved_from, solved, links_of, links, IsHeld, IsResolved, IsChain, IsLeast, Resolves}
+use Rattle.dps_unify.specs.Chain.{Fulfils, and_then, solved_from, solved, links_of, links, IsHeld, IsResolved, IsChain, IsLeast}
 use Rattle.dps_unify.proofs.Bound.{cases_option, single, single_here, single_cases, bound-push_some, bound-push_none, image_none, image_some}
-use Rattle.dps_unify.proofs.Trees.{substitute_in_turn, substitute_agrees, substitute_stays, substitute_itself, variable_of_instance, in_leaf, occurs_check}
+use Rattle.dps_unify.proofs.Trees.{substitute_in_turn, substitute_agrees, substitute_stays, variable_of_instance, in_leaf, occurs_check}
 use Rattle.dps_unify.proofs.Orders.{precedes_trans}
 
 -- nothing bound

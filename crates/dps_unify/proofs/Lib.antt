@@ -4,6 +4,7 @@ pub mod Trees
 pub mod Chains
 pub mod Pairs
 pub mod Reached
+pub mod Keeping
 pub mod Unifying
 pub mod Solving
 pub mod Matched

@@ -1,18 +1,18 @@
 -- Matching, argument by argument.
-use Rattle.std.proofs.Common.{◌≡◌, ℕ, zero, suc, ◌+◌, ◌<◌, ◌≤◌, Bool, true, false, nat_eq, List, [], ◌∷◌, ◌++◌, length, Some, None, Option, refl, sym, ◌∙◌, ap, arith, ◌⊎◌, inl, inr, subst}
-use Rattle.std.specs.Prelude.{slice_get, ◌↔◌, Contains, IsSome}
+use Rattle.std.proofs.Common.{◌≡◌, ℕ, zero, suc, ◌+◌, ◌<◌, ◌≤◌, List, [], ◌∷◌, ◌++◌, length, Some, None, Option, refl, sym, ◌∙◌, ap, arith, ◌⊎◌, inl, inr, subst}
+use Rattle.std.specs.Prelude.{slice_get, Contains, IsSome}
 use Rattle.std.proofs.lemmas.Bool.{cases_lt}
 use Rattle.std.proofs.lemmas.Option.{none-some, slice_get_within}
-use Rattle.dps_terms.specs.Tree.{Leaf, var, Tree, Trees, leaf, app, none, more, list_of, StandsIn, itself}
+use Rattle.dps_terms.specs.Tree.{var, Tree, Trees, leaf, app, none, more, list_of, StandsIn, itself}
 use Rattle.dps_terms.specs.Replace.{substitute, substitute_all}
 use Rattle.dps_terms.specs.Bindings.{bound, image}
 use Rattle.dps_terms.specs.Views.{view_of, arguments}
 use Rattle.dps_terms.specs.declared.TermView.TheVariants.{Var}
 use Rattle.dps_unify.specs.Difference.{IsAlike}
 use Rattle.dps_unify.specs.Matching.{IsMatch, Keeps, Agrees, Matched, Refused}
-use Rattle.dps_unify.proofs.Trees.{same_view, leaf_is_no_app, alike_instance, stands_in_argument, var_from_view, in_leaf}
+use Rattle.dps_unify.proofs.Trees.{same_view, leaf_is_no_app, alike_instance, stands_in_argument, in_leaf}
 use Rattle.dps_unify.proofs.Reached.{below_root}
-use Rattle.dps_unify.proofs.Bound.{cases_option, single, single_here, single_cases, bound-push_some, bound-push_none, image_none, image_some}
+use Rattle.dps_unify.proofs.Bound.{cases_option, single_here, single_cases, bound-push_some, bound-push_none, image_none, image_some}
 
 in_variable : (n m : ℕ) → StandsIn (var m) (leaf (var n)) → m ≡ n
 in_variable n m k = let e = in_leaf (var n) (leaf (var m)) k in cc

@@ -1,17 +1,17 @@
 -- Pairs of terms that are to become equal.
-use Rattle.std.proofs.Common.{◌≡◌, ℕ, zero, suc, ◌+◌, ◌<◌, ◌≤◌, List, [], ◌∷◌, ◌++◌, length, map, take, Some, refl, sym, ◌∙◌, ap, arith, ◌⊎◌, inl, inr, subst, add-one, append_assoc}
+use Rattle.std.proofs.Common.{◌≡◌, ℕ, zero, suc, ◌+◌, ◌<◌, ◌≤◌, List, [], ◌∷◌, ◌++◌, length, take, Some, refl, sym, ◌∙◌, ap, arith, ◌⊎◌, inl, inr, subst, add-one, append_assoc}
 use Rattle.std.specs.Prelude.{slice_get, ◌↔◌}
-use Rattle.std.specs.List.{zip, All, Any}
+use Rattle.std.specs.List.{zip, Any}
 use Rattle.std.proofs.lemmas.List.{take_all, map-append}
 use Rattle.std.proofs.lemmas.List.Elements.{All-nil, All-cons, All-head, All-tail}
 use Rattle.std.proofs.lemmas.Option.{none-some}
-use Rattle.dps_terms.specs.Tree.{Leaf, var, Tree, Trees, leaf, app, none, more, list_of, node_count, node_counts, StandsIn}
+use Rattle.dps_terms.specs.Tree.{var, Tree, Trees, leaf, app, none, more, list_of, node_count, node_counts, StandsIn}
 use Rattle.dps_terms.specs.Replace.{substitute, substitute_all}
-use Rattle.dps_terms.specs.Views.{view_of, arguments}
+use Rattle.dps_terms.specs.Views.{arguments}
 use Rattle.dps_terms.specs.Seen.{seen}
 use Rattle.dps_unify.specs.Unifier.{Unifies, IsVariableOf}
 use Rattle.dps_unify.specs.Chain.{Fulfils, solved, IsHeld, IsChain, Resolves}
-use Rattle.dps_unify.specs.Difference.{pairs_of, IsAlike, AreUnified, Remains, IsDifference}
+use Rattle.dps_unify.specs.Difference.{pairs_of, IsAlike, Remains, IsDifference}
 use Rattle.dps_unify.specs.declared.difference.Parts.{Parts}
 use Rattle.dps_unify.proofs.Trees.{unified_arguments, stands_in_argument}
 

@@ -1,18 +1,18 @@
 -- Whether a variable stands in what a term becomes, argument by argument.
-use Rattle.std.proofs.Common.{◌≡◌, ℕ, zero, suc, ◌+◌, ◌<◌, ◌≤◌, List, ◌∷◌, length, Some, refl, sym, ◌∙◌, ap, arith, ◌⊎◌, inl, inr, subst, nat_eq, true}
+use Rattle.std.proofs.Common.{◌≡◌, ℕ, zero, suc, ◌<◌, ◌≤◌, List, length, Some, refl, sym, ◌∙◌, ap, arith, inl, inr, subst, nat_eq, true}
 use Rattle.std.specs.Prelude.{slice_get, ◌↔◌, IsTrue}
-use Rattle.std.proofs.lemmas.Bool.{cases_Bool, cases_lt, eqb-true, eq-eqb}
+use Rattle.std.proofs.lemmas.Bool.{cases_Bool, eqb-true, eq-eqb}
 use Rattle.std.proofs.lemmas.List.Folds.{Any-from_list_any}
 use Rattle.std.proofs.lemmas.List.Elements.{All-push}
 use Rattle.std.specs.List.{All, list_any}
 use Rattle.indexmap.specs.IndexSet.{insert_key}
 use Rattle.std.proofs.lemmas.Option.{none-some, slice_get_within}
 use Rattle.dps_terms.specs.Tree.{Leaf, var, Tree, Trees, leaf, app, none, more, list_of, node_count, IsSubterm, IsAmong, StandsIn, itself, below, in_first, in_rest}
-use Rattle.dps_terms.specs.Replace.{replace, substitute, variables_to}
+use Rattle.dps_terms.specs.Replace.{substitute, variables_to}
 use Rattle.dps_terms.specs.Views.{view_of, arguments}
 use Rattle.dps_terms.specs.declared.TermView.TheVariants.{Var}
 use Rattle.dps_terms.proofs.Replacing.{keeps_subterms, keeps_among}
-use Rattle.dps_terms.proofs.Subterms.{nested, subterm_le, among_le}
+use Rattle.dps_terms.proofs.Subterms.{nested, among_le}
 use Rattle.dps_unify.specs.Chain.{solved, IsResolved, IsChain, Resolves}
 use Rattle.dps_unify.proofs.Trees.{variable_of_instance, in_leaf, var_from_view}
 

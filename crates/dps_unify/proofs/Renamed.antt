@@ -1,11 +1,10 @@
 -- Raised numbers, argument by argument.
-use Rattle.std.proofs.Common.{◌≡◌, ℕ, ◌+◌, ◌<◌, ◌≤◌, ◌^◌, Some, refl, sym, ◌∙◌, ap, subst}
+use Rattle.std.proofs.Common.{◌≡◌, ℕ, ◌+◌, ◌<◌, ◌^◌, Some, sym, subst}
 use Rattle.std.specs.Prelude.{slice_get}
-use Rattle.dps_terms.specs.Tree.{Leaf, public, private, var, ax, entry, rigid, Tree, leaf, app, StandsIn, itself}
+use Rattle.dps_terms.specs.Tree.{var, Tree, StandsIn, itself}
 use Rattle.dps_terms.specs.Views.{arguments, view_of}
-use Rattle.dps_terms.specs.declared.Sym.{Sym}
-use Rattle.dps_terms.specs.declared.TermView.TheVariants.{App, Var}
-use Rattle.dps_unify.specs.Renaming.{raised, HasRoom}
+use Rattle.dps_terms.specs.declared.TermView.TheVariants.{Var}
+use Rattle.dps_unify.specs.Renaming.{HasRoom}
 use Rattle.dps_unify.proofs.Trees.{stands_in_argument, var_from_view}
 
 pub room_here : (by : ℕ) (t : Tree) (n : ℕ) → Var n ≡ view_of t → HasRoom t by → n + by < 2 ^ 64

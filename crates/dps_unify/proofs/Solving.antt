@@ -1,17 +1,17 @@
 -- The solution, binding by binding and argument by argument.
-use Rattle.std.proofs.Common.{◌≡◌, ℕ, zero, suc, ◌+◌, ◌<◌, ◌≤◌, List, [], ◌∷◌, ◌++◌, length, map, take, Some, None, refl, sym, ◌∙◌, ap, subst, arith, add-one}
+use Rattle.std.proofs.Common.{◌≡◌, ℕ, zero, suc, ◌+◌, ◌≤◌, List, [], ◌∷◌, ◌++◌, length, map, take, Some, None, sym, ◌∙◌, ap, add-one}
 use Rattle.std.specs.Prelude.{slice_get}
 use Rattle.std.proofs.lemmas.List.{take_all}
 use Rattle.std.proofs.lemmas.Option.{none-some}
 use Rattle.dps_terms.specs.declared.Sym.{Sym}
 use Rattle.dps_terms.specs.declared.TermView.TheVariants.{App}
-use Rattle.dps_terms.specs.Tree.{Leaf, public, private, var, ax, entry, rigid, Tree, Trees, leaf, app, none, more, trees, list_of, node_count}
+use Rattle.dps_terms.specs.Tree.{public, private, var, ax, entry, rigid, Tree, leaf, app, trees, list_of, node_count}
 use Rattle.dps_terms.specs.Replace.{substitute, substitute_all, variables_to}
 use Rattle.dps_terms.specs.Views.{view_of, arguments}
 use Rattle.dps_terms.specs.Bindings.{bound, IsDistinct}
 use Rattle.dps_terms.proofs.Arguments.{replace_trees}
 use Rattle.dps_terms.proofs.Subterms.{trees-list_of}
-use Rattle.dps_unify.specs.Chain.{solved, IsChain, IsResolved, Resolves}
+use Rattle.dps_unify.specs.Chain.{solved, IsChain, Resolves}
 use Rattle.dps_unify.proofs.Unifying.{with_second, later_is_free, solved_next}
 
 pub resolved_nodes : (b : List (ℕ × Tree)) (t u : Tree) → IsChain b → Resolves b t u → node_count (substitute (solved b) u) ≡ node_count (substitute (solved b) t)

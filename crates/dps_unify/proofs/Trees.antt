@@ -1,12 +1,12 @@
 -- Trees under substitutions, and their arguments.
-use Rattle.std.proofs.Common.{◌≡◌, ℕ, zero, suc, ◌≤◌, ◌<◌, List, [], ◌∷◌, length, Some, refl, sym, ◌∙◌, ap, arith, inl, inr, subst}
+use Rattle.std.proofs.Common.{◌≡◌, ℕ, zero, suc, length, Some, refl, sym, ◌∙◌, ap, arith, inl, inr, subst}
 use Rattle.std.specs.Prelude.{slice_get, ◌⊎◌, ◌↔◌}
 use Rattle.std.proofs.lemmas.List.Elements.{All-nil, All-cons, All-head, All-tail}
 use Rattle.std.proofs.lemmas.Option.{none-some}
 use Rattle.std.specs.List.{zip}
 use Rattle.dps_terms.specs.declared.Sym.{Sym}
 use Rattle.dps_terms.specs.declared.TermView.TheVariants.{App, Var}
-use Rattle.dps_terms.specs.Tree.{Leaf, public, private, var, ax, entry, rigid, Tree, Trees, leaf, app, none, more, list_of, node_count, node_counts, IsSubterm, IsAmong, StandsIn, itself, below, in_first, in_rest}
+use Rattle.dps_terms.specs.Tree.{Leaf, public, private, var, ax, entry, rigid, Tree, Trees, leaf, app, none, more, list_of, node_count, IsSubterm, IsAmong, StandsIn, itself, below, in_first, in_rest}
 use Rattle.dps_terms.specs.Replace.{replace, substitute, substitute_all, variables_to}
 use Rattle.dps_terms.specs.Views.{view_of, arguments}
 use Rattle.dps_terms.proofs.Replacing.{replace_in_turn, replace_agrees, replace_itself, subterm_of_instance, keeps_among}

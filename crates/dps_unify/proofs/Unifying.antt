@@ -1,14 +1,10 @@
 -- From pairs to bindings, and from bindings to the unifier.
-use Rattle.std.proofs.Common.{◌≡◌, ℕ, zero, suc, ◌+◌, ◌<◌, ◌≤◌, List, [], ◌∷◌, ◌++◌, length, map, take, nat_eq, Bool, true, false, Option, Some, None, refl, sym, ◌∙◌, ap, arith, ◌⊎◌, inl, inr, subst, add-one, cond}
-use Rattle.std.specs.Prelude.{slice_get, ◌↔◌, MatchBool}
+use Rattle.std.proofs.Common.{◌≡◌, ℕ, zero, suc, ◌+◌, ◌<◌, ◌≤◌, List, [], ◌∷◌, ◌++◌, map, take, nat_eq, true, Option, Some, None, refl, sym, ◌∙◌, ap, arith, ◌⊎◌, inl, inr, subst, cond}
+use Rattle.std.specs.Prelude.{slice_get, ◌↔◌}
 use Rattle.std.specs.Option.{option_map}
-use Rattle.std.specs.Map.{lookup}
-use Rattle.std.specs.List.{All, Any}
-use Rattle.std.proofs.lemmas.List.{take_all}
-use Rattle.std.proofs.lemmas.List.Elements.{All-nil}
 use Rattle.std.proofs.lemmas.Bool.{cases_Bool, eqb-true, eq-eqb}
 use Rattle.std.proofs.lemmas.Option.{none-some}
-use Rattle.dps_terms.specs.Tree.{Leaf, public, private, var, ax, entry, rigid, Tree, Trees, leaf, app, none, more, StandsIn, IsSubterm, IsAmong, itself, below, in_first, in_rest}
+use Rattle.dps_terms.specs.Tree.{Leaf, public, private, var, ax, entry, rigid, Tree, Trees, leaf, app, none, more, StandsIn, IsAmong, itself, below, in_first, in_rest}
 use Rattle.dps_terms.specs.Replace.{substitute}
 use Rattle.dps_terms.specs.Bindings.{bound, image, IsDistinct}
 use Rattle.dps_unify.specs.Order.{Precedes}
@@ -17,8 +13,10 @@ use Rattle.dps_unify.specs.Chain.{Fulfils, solved, IsHeld, IsChain, IsLeast, IsR
 use Rattle.dps_unify.specs.Difference.{IsDifference, AreUnified}
 use Rattle.dps_unify.specs.Forced.{AreNeverEqual, IsForced}
 use Rattle.dps_unify.specs.Unified.{IsUnified, all_solved}
+use Rattle.dps_unify.specs.Kept.{trees_of, IsKnown, IsKnownWith}
+use Rattle.dps_unify.specs.declared.pending.Pending.{Pending}
+use Rattle.dps_unify.proofs.Keeping.{kept_bound}
 use Rattle.dps_unify.proofs.Bound.{cases_option, bound-map, bound-push_some, bound-push_none, single_here, image_none, image_some}
-use Rattle.dps_unify.proofs.Trees.{in_leaf}
 use Rattle.dps_unify.proofs.Chains.{empty_chain, empty_least, chain_push, least_push, fulfils_before, fulfils_here, fulfils_push, held_cases, cycle_is_unsolvable}
 use Rattle.dps_unify.proofs.Pairs.{any_cases, any_none, StandsInPair}
 
@@ -196,6 +194,11 @@ module _ (levels : List (ℕ × ℕ)) (pairs : List (Tree × Tree)) (b : List (�
         within = step_within;
       })
 
+      pub was_fulfilled : (r : ℕ → Tree) → Fulfils r q → Fulfils r b × (substitute r a ≡ substitute r c)
+      was_fulfilled r k =
+          let f = subst (Fulfils r) is k in
+          (fulfils_before b h.chain x v forced_is_free r f, equal_forced r (fulfils_here b h.chain x v forced_is_free r f))
+
       was_free : (n : ℕ) → bound q n ≡ None → bound b n ≡ None
       was_free n e =
           elim (cases_option (bound b n)) [
@@ -208,6 +211,17 @@ module _ (levels : List (ℕ × ℕ)) (pairs : List (Tree × Tree)) (b : List (�
           pair_places_lt b q was_free x v forced_is_free
           (ap (λ s. bound s x) is ∙ bound-push_none b (x, v) x forced_is_free ∙ single_here x v)
           pairs (forced_within x (inl refl))
+
+-- how far the search has come, with what is known of the pending pairs
+pub record Searches (levels : List (ℕ × ℕ)) (pairs : List (Tree × Tree)) (b : List (ℕ × Tree)) (pending : Pending) : Type 0 where
+  pub progress : Progress levels pairs b (trees_of pending)
+  pub known : IsKnown b pending
+
+pub searches_on : (levels : List (ℕ × ℕ)) (pairs : List (Tree × Tree)) (b : List (ℕ × Tree)) (pending rest : Pending) (a c : Tree) (h : Searches levels pairs b pending) (d : IsDifference b (trees_of pending) (trees_of rest) a c) (kept : IsKnownWith b a c rest) (x : ℕ) (v : Tree) (forced : IsForced levels a c x v) (absent : ¬ StandsIn (var x) (substitute (solved b) v)) (q : List (ℕ × Tree)) (is : q ≡ b ++ (x, v) ∷ []) → Searches levels pairs q rest
+searches_on levels pairs b pending rest a c h d kept x v forced absent q is = record {
+  progress = progress_step levels pairs b (trees_of pending) (trees_of rest) a c h.progress d x v forced absent q is;
+  known = kept_bound b q rest a c kept (was_fulfilled levels pairs b (trees_of pending) (trees_of rest) a c h.progress d x v forced absent q is);
+}
 
 -- the unifier, from bindings
 module _ (levels : List (ℕ × ℕ)) (pairs : List (Tree × Tree)) (b : List (ℕ × Tree)) (h : IsUnified levels pairs b) where

@@ -1,7 +1,7 @@
 -- Bindings in the order in which they were found. A variable is bound to a term as it stands in a pair, which may hold
 -- variables that are bound themselves; to follow all of them gives the substitution that the bindings stand for.
-use Rattle.std.specs.Prelude.{◌≡◌, ℕ, zero, suc, ◌<◌, ◌⊎◌, nat_eq, if◌then◌else◌, length, List, [], ◌∷◌, Some, None}
-use Rattle.dps_terms.specs.Tree.{Leaf, var, Tree, leaf, app, StandsIn}
+use Rattle.std.specs.Prelude.{◌≡◌, ℕ, suc, ◌<◌, ◌⊎◌, nat_eq, if◌then◌else◌, length, List, [], ◌∷◌, Some, None}
+use Rattle.dps_terms.specs.Tree.{var, Tree, leaf, StandsIn}
 use Rattle.dps_terms.specs.Replace.{substitute}
 use Rattle.dps_terms.specs.Bindings.{bound, image}
 use Rattle.dps_unify.specs.Order.{Precedes}

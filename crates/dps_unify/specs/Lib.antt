@@ -6,3 +6,4 @@ pub mod Forced
 pub mod Unified
 pub mod Matching
 pub mod Renaming
+pub mod Kept

@@ -1,5 +1,5 @@
 -- What bindings are when they unify pairs.
-use Rattle.std.specs.Prelude.{◌↔◌, ◌⊎◌, ℕ, List, map}
+use Rattle.std.specs.Prelude.{◌↔◌, ℕ, List, map}
 use Rattle.dps_terms.specs.Tree.{Tree}
 use Rattle.dps_terms.specs.Replace.{substitute}
 use Rattle.dps_unify.specs.Unifier.{Unifies, IsVariableOf}

@@ -1,12 +1,14 @@
 //! Where terms first differ.
-ghost use Rattle.std.specs.Prelude.{◌≡◌, ◌++◌, ◌↔◌, IsTrue, IfOk, OnOk, MatchOption};
+ghost use Rattle.std.specs.Prelude.{◌≡◌, ◌++◌, ◌↔◌, IsTrue, IfOk, IfSome, OnOk, MatchOption};
 ghost use Rattle.std.specs.List.{zip};
 ghost use Rattle.dps_terms.specs.Seen.{seen};
 ghost use Rattle.dps_terms.specs.Views.{arguments};
 ghost use Rattle.dps_unify.specs.Chain.{IsChain};
 ghost use Rattle.dps_unify.specs.Difference.{pairs_of, IsAlike, AreUnified, IsDifference};
+ghost use Rattle.dps_unify.specs.Kept.{trees_of, IsKnown, IsKnownWith};
 
 use crate::bindings::Bindings;
+use crate::pending::Pending;
 use dps_terms::{NoMemory, TermRef};
 
 /// Two terms that have to become equal.
@@ -27,24 +29,23 @@ pub(crate) fn alike(left: TermRef<'_>, right: TermRef<'_>) -> bool
 /// stay.
 pub(crate) fn next_difference<'a>(
     bindings: &Bindings<'a>,
-    pending: &mut Vec<Parts<'a>>,
+    pending: &mut Pending<'a>,
 ) -> Result<Option<Parts<'a>>, NoMemory>
-    requires { IsChain bindings.now }
-    ensures { IfOk result (λ o. MatchOption o (AreUnified bindings.now (pairs_of pending.old.items)) (λ d. IsDifference bindings.now (pairs_of pending.old.items) (pairs_of pending.new.items) (seen d.left) (seen d.right))) }
+    requires chain { IsChain bindings.now }
+    requires kept { IsKnown bindings.now pending.old }
+    ensures found { IfOk result (λ o. MatchOption o (AreUnified bindings.now (trees_of pending.old)) (λ d. IsDifference bindings.now (trees_of pending.old) (trees_of pending.new) (seen d.left) (seen d.right))) }
+    ensures kept { IfOk result (λ o. IfSome o (λ d. IsKnownWith bindings.now (seen d.left) (seen d.right) pending.new)) }
 {
-    while let Some(parts) = pending.pop() {
-        let left = bindings.resolve(parts.left);
-        let right = bindings.resolve(parts.right);
-        if !alike(left, right) {
-            return Ok(Some(Parts { left, right }));
+    while let Some(parts) = pending.pop()? {
+        if let Some(difference) = pending.advance(bindings, parts)? {
+            return Ok(Some(difference));
         }
-        push_arguments(pending, left, right)?;
     }
     Ok(None)
 }
 
 /// Adds the pairs of the arguments.
-fn push_arguments<'a>(
+pub(crate) fn push_arguments<'a>(
     pending: &mut Vec<Parts<'a>>,
     left: TermRef<'a>,
     right: TermRef<'a>,

@@ -10,6 +10,7 @@ mod bindings;
 mod difference;
 mod matching;
 mod order;
+mod pending;
 mod reaching;
 mod renaming;
 mod solution;
@@ -17,7 +18,7 @@ mod solution;
 mod tests;
 mod unifier;
 
-pub use matching::matches;
+pub use matching::{extend_match, matches};
 pub use order::VarOrder;
 pub use renaming::rename;
 pub use unifier::mgu;

@@ -25,8 +25,10 @@ pub fn matches(
     Ok(None)
 }
 
-/// Extends the solution so that the pattern becomes the term.
-fn extend_match(
+/// Extends the solution so that the pattern becomes the term: it binds just variables of the pattern that are among `free` and
+/// are not bound yet, and leaves the others. `false` comes exactly where no substitution of the variables `free` that agrees
+/// with what is bound makes the pattern the term; the solution may then have grown all the same.
+pub fn extend_match(
     alloc: Global,
     solution: &mut Subst,
     free: &[u64],

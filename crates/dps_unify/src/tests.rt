@@ -88,6 +88,27 @@ fn unifiers(rt: HostRuntime) {
     assert!(rt; fails(alloc, &[(Shape::F(1), Shape::G(1, 1))]));
 }
 
+/// Two towers of doubled variables whose tops are to be equal, and last a pair that nothing unifies. There are more than
+/// 2^40 pairs of places in the towers.
+fn towers(alloc: Global) -> Result<Vec<(Shape, Shape)>, NoMemory> {
+    let mut pairs = Vec::new(alloc);
+    pairs.push((Shape::F(0), Shape::G(0, 0)))?;
+    pairs.push((Shape::Var(40), Shape::Var(140)))?;
+    for n in 0..40 {
+        pairs.push((Shape::Var(n + 1), Shape::G(n, n)))?;
+        pairs.push((Shape::Var(n + 101), Shape::G(n + 100, n + 100)))?;
+    }
+    Ok(pairs)
+}
+
+#[test]
+fn pairs_are_taken_apart_once(rt: HostRuntime) -> Result<(), Fail> {
+    let alloc = rt.alloc();
+    let pairs = towers(alloc)?;
+    assert!(rt; fails(alloc, &pairs));
+    Ok(())
+}
+
 fn found(
     alloc: Global,
     pattern: Shape,

@@ -1,18 +1,19 @@
 //! Most general unifiers.
-ghost use Rattle.std.specs.Prelude.{◌≡◌, ◌++◌, ◌∷◌, [], None, IfOk, MatchOption, MatchBool};
-ghost use Rattle.dps_terms.specs.Tree.{var, StandsIn};
+ghost use Rattle.std.specs.Prelude.{◌≡◌, ◌++◌, ◌∷◌, [], ℕ, List, None, IfOk, MatchOption, MatchBool};
+ghost use Rattle.dps_terms.specs.Tree.{var, Tree, StandsIn};
 ghost use Rattle.dps_terms.specs.Replace.{substitute};
 ghost use Rattle.dps_terms.specs.Bindings.{bound};
 ghost use Rattle.dps_terms.specs.Seen.{seen};
 ghost use Rattle.dps_unify.specs.Unifier.{IsMgu, IsNotUnifiable};
 ghost use Rattle.dps_unify.specs.Chain.{IsChain, solved};
-ghost use Rattle.dps_unify.specs.Difference.{pairs_of};
+ghost use Rattle.dps_unify.specs.Kept.{trees_of, IsKnown};
 ghost use Rattle.dps_unify.specs.Unified.{IsUnified};
 
 use crate::VarOrder;
 use crate::binding::{Binding, forced_binding};
 use crate::bindings::Bindings;
-use crate::difference::{Parts, next_difference};
+use crate::difference::next_difference;
+use crate::pending::Pending;
 use crate::reaching::reaches;
 use crate::solution::solution;
 use dps_terms::{NoMemory, Subst, Term};
@@ -31,7 +32,7 @@ pub fn mgu(
 ) -> Result<Option<Subst>, NoMemory>
     ensures { IfOk result (λ o. MatchOption o (IsNotUnifiable pairs.now) (IsMgu order.now.levels.items pairs.now)) }
 {
-    match unify(alloc, order, pending_pairs(alloc, pairs)?)? {
+    match unify(alloc, order, Pending::new(alloc, pairs)?)? {
         Some(bindings) => {
             let unifier = solution(alloc, &bindings)?;
             Ok(Some(unifier))
@@ -40,27 +41,14 @@ pub fn mgu(
     }
 }
 
-/// The pairs, borrowed.
-fn pending_pairs(alloc: Global, pairs: &[(Term, Term)]) -> Result<Vec<Parts<'_>>, NoMemory>
-    ensures { IfOk result (λ v. pairs_of v.items ≡ pairs.now) }
-{
-    let mut pending = Vec::with_capacity(alloc, pairs.len())?;
-    for pair in pairs {
-        pending.push(Parts {
-            left: pair.0.whole(),
-            right: pair.1.whole(),
-        })?;
-    }
-    Ok(pending)
-}
-
 /// Bindings that make the pending pairs equal.
 fn unify<'a>(
     alloc: Global,
     order: &VarOrder,
-    mut pending: Vec<Parts<'a>>,
+    mut pending: Pending<'a>,
 ) -> Result<Option<Bindings<'a>>, NoMemory>
-    ensures { IfOk result (λ o. MatchOption o (IsNotUnifiable (pairs_of pending.entry.items)) (IsUnified order.now.levels.items (pairs_of pending.entry.items))) }
+    requires { (b : List (ℕ × Tree)) → IsKnown b pending }
+    ensures { IfOk result (λ o. MatchOption o (IsNotUnifiable (trees_of pending.entry)) (IsUnified order.now.levels.items (trees_of pending.entry))) }
 {
     let mut bindings = Bindings::empty(alloc);
     while let Some(parts) = next_difference(&bindings, &mut pending)? {

@@ -1,4 +1,4 @@
-use Rattle.std.proofs.Common.{◌≡◌, ◌∙◌, sym, refl, arith, true, false}
+use Rattle.std.proofs.Common.{◌≡◌, ◌∙◌, refl, arith, true, false}
 use Rattle.dps_terms.specs.Seen.{seen}
 use Rattle.dps_terms.specs.Smaller.{argument_is_smaller}
 use Rattle.dps_unify.proofs.Matched.{refused_root, so_far_refused, so_far_more, so_far_end}

@@ -1,4 +1,4 @@
-use Rattle.std.proofs.Common.{◌≡◌, nat_eq, arith, refl, sym, ◌∙◌, ap, true, false}
+use Rattle.std.proofs.Common.{◌≡◌, arith, refl, sym, ◌∙◌, true, false}
 use Rattle.dps_terms.specs.Tree.{var, StandsIn}
 use Rattle.dps_terms.specs.Seen.{seen}
 use Rattle.dps_unify.specs.Chain.{solved}

@@ -1,6 +1,4 @@
-use Rattle.std.proofs.Common.{◌∙◌, ap, ◌++◌, ◌∷◌, []}
 use Rattle.dps_terms.specs.Replace.{substitute}
-use Rattle.dps_terms.specs.Bindings.{bound}
 use Rattle.dps_terms.specs.Seen.{seen}
 use Rattle.dps_unify.specs.Chain.{solved}
 use Rattle.dps_unify.proofs.Solving.{solution_next, later_is_free_in}

@@ -1,4 +1,4 @@
-use Rattle.std.proofs.Common.{nat_eq, map, refl}
+use Rattle.std.proofs.Common.{nat_eq, refl}
 use Rattle.std.proofs.lemmas.List.{map-append}
 use Rattle.indexmap.proofs.CallerLemmas.{insert_entry-new}
 use Rattle.dps_terms.specs.Seen.{seen}
