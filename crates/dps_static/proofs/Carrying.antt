@@ -1,29 +1,26 @@
 -- Each recipe with a value is carried over, by induction on the recipe.
-use Rattle.std.proofs.Common.{◌≡◌, ℕ, zero, suc, ◌≤◌, List, [], ◌∷◌, length, slice_get, Some, None, refl, sym, ◌∙◌, ap, subst, arith, inl, inr}
-use Rattle.std.specs.Prelude.{◌⊎◌, Contains}
+use Rattle.std.proofs.Common.{◌≡◌, ℕ, ◌≤◌, List, [], ◌∷◌, length, refl, sym, ◌∙◌, ap, subst, arith, inl, inr}
+use Rattle.std.specs.Prelude.{Contains}
 use Rattle.dps_terms.specs.declared.Sym.{Sym}
 use Rattle.dps_terms.specs.declared.SymKind.TheVariants.{Constructor, Destructor}
-use Rattle.dps_terms.specs.declared.PublicName.{PublicName}
-use Rattle.dps_terms.specs.Tree.{Leaf, public, private, var, ax, entry, rigid, Tree, Trees, leaf, app, none, more, count, StandsIn, IsAmong}
+use Rattle.dps_terms.specs.Tree.{Leaf, public, private, var, ax, entry, rigid, Tree, Trees, leaf, app, none, more, count, IsAmong}
 use Rattle.dps_terms.specs.Replace.{replace_all, substitute, substitute_all, variables_to, handles_to, in_frame, entries_to, put_entries}
-use Rattle.dps_terms.specs.Bindings.{bound}
 use Rattle.dps_terms.specs.Variables.{variables}
 use Rattle.dps_terms.specs.Signature.{Signature, HasShape, HasArity, shapes}
 use Rattle.dps_terms.specs.Kinds.{AreBuiltOf, AnySymbol, IsRecipe, IsRecipeLeaf}
 use Rattle.dps_terms.proofs.Building.{count-replace_all, built_among}
 use Rattle.dps_terms.proofs.Replacing.{keeps_among}
 use Rattle.dps_terms.proofs.Listing.{variables_are_those}
-use Rattle.dps_unify.specs.Matching.{Agrees}
 use Rattle.dps_theory.specs.Theory.{Rule, Theory, HasRule, IsAccepted, HasPlainRules}
-use Rattle.dps_theory.specs.Evaluation.{Evaluates, EvaluateAll, Reduces, named, constructed, reduced, no_terms, a_term}
-use Rattle.dps_theory.proofs.Evaluating.{count-evaluated}
-use Rattle.dps_recipes.specs.Reduction.{Gives}
+use Rattle.dps_theory.specs.Evaluation.{Evaluates, EvaluateAll, Reduces, named, no_terms, a_term}
 use Rattle.dps_recipes.proofs.Fitting.{restricted, restricted_at, restricted_cases, restricted_instance}
 use Rattle.dps_recipes.proofs.Valuing.{IsApplied, applied_at, gives_value}
-use Rattle.dps_static.specs.Generic.{IsOpenWay, IsBuilt, AreBuilt, IsNoRigidLeaf, HasNoRigidName, IsFound, AreSettled, CoversAll}
-use Rattle.dps_static.proofs.Covering.{AreOpenWays, ways_built, same_instances}
-use Rattle.dps_static.proofs.Stepping.{HaveNoRigidName}
-use Rattle.dps_static.proofs.Moving.{FollowsOpenly, put_all, Moves, IsPassed, rule_moves, right_stands, below_root}
+use Rattle.dps_static.specs.Ways.{IsOpenWay}
+use Rattle.dps_static.specs.Follows.{Follows}
+use Rattle.dps_static.specs.Generic.{IsNoRigidLeaf, HasNoRigidName, HaveNoRigidName, CoversAll}
+use Rattle.dps_static.proofs.Ways.{AreOpenWays}
+use Rattle.dps_static.proofs.Covering.{ways_built, same_instances}
+use Rattle.dps_static.proofs.Moving.{put_all, Moves, IsPassed, rule_moves, right_stands, below_root}
 
 abbrev pub Patterns : Trees → Type 0
 Patterns ts = AreBuiltOf IsNoRigidLeaf AnySymbol ts
@@ -35,7 +32,7 @@ pub record IsRulePassed (theory : Theory) (kept counterparts : List Tree) (g : S
   pub passed : (s : List (ℕ × Tree)) → Contains found s → IsPassed theory kept counterparts g patterns right s
 
 pub record ArePassed (theory : Theory) (kept counterparts : List Tree) : Type 0 where
-  pub follows : FollowsOpenly kept counterparts
+  pub follows : Follows kept counterparts
   pub rules : (rule : Rule) (g : Sym) (patterns : Trees) → HasRule theory rule → rule.left ≡ app g patterns → IsRulePassed theory kept counterparts g patterns rule.right
 
 module _ (theory : Theory) (plain : HasPlainRules theory) (accepted : IsAccepted theory) (kept counterparts : List Tree) (low : HaveNoRigidName kept) (lower : HaveNoRigidName counterparts) (passed : ArePassed theory kept counterparts) where

@@ -1,22 +1,21 @@
 -- Frames whose saturated messages pass against each other, both ways, are statically equivalent under the theory.
 use Rattle.std.proofs.Common.{◌≡◌, ℕ, zero, suc, ◌<◌, ◌≤◌, List, length, slice_get, get_or, unwrap_or, Some, None, refl, sym, ◌∙◌, ap, subst, arith, inl, inr}
-use Rattle.std.specs.Prelude.{◌⊎◌, ◌↔◌, Option, Contains}
+use Rattle.std.specs.Prelude.{Option}
 use Rattle.std.proofs.lemmas.Option.{slice_get-get_or, slice_get_within}
-use Rattle.dps_terms.specs.declared.Sym.{Sym}
-use Rattle.dps_terms.specs.Tree.{Leaf, public, private, var, ax, entry, rigid, Tree, Trees, leaf, app, none, more, StandsIn, IsAmong, itself, below, in_first, in_rest}
-use Rattle.dps_terms.specs.Replace.{replace, replace_all, numbered, handles_to, in_frame, put_entries}
+use Rattle.dps_terms.specs.Tree.{public, private, var, ax, entry, rigid, Tree, Trees, leaf, app, none, more, StandsIn, IsAmong, itself, below, in_first, in_rest}
+use Rattle.dps_terms.specs.Replace.{replace_all, numbered, handles_to, in_frame, put_entries}
 use Rattle.dps_terms.specs.Signature.{Signature, HasArity, shapes}
-use Rattle.dps_terms.specs.Kinds.{AreBuiltOf, AnySymbol, IsName, IsPlain, IsRecipe, IsRecipeLeaf}
+use Rattle.dps_terms.specs.Kinds.{AreBuiltOf, AnySymbol, IsRecipe, IsRecipeLeaf}
 use Rattle.dps_terms.proofs.Building.{leaf_meets}
-use Rattle.dps_theory.specs.Theory.{Rule, Theory, HasRule, IsAccepted, HasPlainRules, IsRuleLeaf}
+use Rattle.dps_theory.specs.Theory.{Theory, IsAccepted, HasPlainRules, IsRuleLeaf}
 use Rattle.dps_theory.specs.Evaluation.{Evaluates}
-use Rattle.dps_theory.specs.Frames.{HasValue, Succeeds, HaveOneValue, AreStaticallyEquivalent}
+use Rattle.dps_theory.specs.Frames.{HasValue, AreStaticallyEquivalent}
 use Rattle.dps_theory.proofs.Evaluating.{plain_evaluates, plain_alone}
 use Rattle.dps_theory.proofs.Leaves.{leaf_of_value}
-use Rattle.dps_static.specs.Generic.{IsOpenWay, IsNoRigidLeaf, HasNoRigidName}
+use Rattle.dps_static.specs.Generic.{IsNoRigidLeaf, HasNoRigidName, HaveNoRigidName}
+use Rattle.dps_static.specs.Answer.{IsAtMost}
+use Rattle.dps_static.specs.Saturation.{IsCleanFrame, StartsWith}
 use Rattle.dps_static.proofs.Ways.{numbered-there}
-use Rattle.dps_static.proofs.Stepping.{HaveNoRigidName}
-use Rattle.dps_static.proofs.Moving.{FollowsOpenly}
 use Rattle.dps_static.proofs.Carrying.{ArePassed, Carries, carried}
 
 -- a tree in which no rigid name stands
@@ -33,20 +32,6 @@ mutual
   pub no_rigids : (ts : Trees) → ((k : ℕ) → ¬ IsAmong (leaf (rigid k)) ts) → AreBuiltOf IsNoRigidLeaf AnySymbol ts
   no_rigids none h = tt
   no_rigids (more t ts) h = (no_rigid t (λ k s. h k (in_first s)), no_rigids ts (λ k s. h k (in_rest s)))
-
--- all messages are built of constructors over names, and hold no rigid name
-pub record IsCleanFrame (theory : Theory) (frame : List Tree) : Type 0 where
-  pub plain : (k : ℕ) (t : Tree) → slice_get frame k ≡ Some t → IsPlain theory.shapes t
-  pub low : HaveNoRigidName frame
-
--- what begins with the messages
-abbrev pub StartsWith : List Tree → List Tree → Type 0
-StartsWith kept frame = (k : ℕ) (t : Tree) → slice_get frame k ≡ Some t → slice_get kept k ≡ Some t
-
--- what holds in the first frame holds in the second
-pub record IsAtMost (signature : Signature) (theory : Theory) (first second : List Tree) : Type 0 where
-  pub successes : (r : Tree) → IsRecipe signature (length first) r → Succeeds theory first r → Succeeds theory second r
-  pub equalities : (r s : Tree) → IsRecipe signature (length first) r → IsRecipe signature (length first) s → HaveOneValue theory first r s → HaveOneValue theory second r s
 
 -- recipes over such a frame hold no rigid name, nor do their values
 module _ (theory : Theory) (frame : List Tree) (clean : IsCleanFrame theory frame) (signature : Signature) where
@@ -102,7 +87,7 @@ module _ (theory : Theory) (plain : HasPlainRules theory) (accepted : IsAccepted
       }
 
   module _ (signature : Signature) where
-    carried_to : (r v : Tree) → IsRecipe signature (length first) r → HasValue theory first r v → Carries theory plain accepted kept counterparts low lower passed (in_frame second r) v
+    pub carried_to : (r v : Tree) → IsRecipe signature (length first) r → HasValue theory first r v → Carries theory plain accepted kept counterparts low lower passed (in_frame second r) v
     carried_to r v h e =
         carried theory plain accepted kept counterparts low lower passed signature (length first) first second message_carried
         (clean_value theory first clean signature accepted plain) r v h e

@@ -1,22 +1,21 @@
 -- The substitutions that are found for a pattern are all that matter.
-use Rattle.std.proofs.Common.{◌≡◌, ℕ, zero, suc, ◌+◌, ◌<◌, ◌≤◌, List, [], ◌∷◌, ◌++◌, length, slice_get, unwrap_or, Some, None, refl, sym, ◌∙◌, ap, subst, arith, inl, inr}
-use Rattle.std.specs.Prelude.{◌⊎◌, Option, Contains, All, ⊤}
+use Rattle.std.proofs.Common.{◌≡◌, ℕ, zero, suc, List, ◌++◌, length, slice_get, unwrap_or, Some, None, refl, sym, ◌∙◌, ap, subst, arith, inl, inr}
+use Rattle.std.specs.Prelude.{◌⊎◌, Option, Contains}
 use Rattle.std.proofs.lemmas.List.Elements.{Contains-append_left, Contains-append_right}
 use Rattle.std.proofs.lemmas.Option.{slice_get_within, get_or_from_slice_get}
 use Rattle.dps_terms.specs.declared.Sym.{Sym}
 use Rattle.dps_terms.specs.declared.PublicName.{PublicName}
-use Rattle.dps_terms.specs.declared.PublicName.TheVariants.{Declared}
-use Rattle.dps_terms.specs.Tree.{Leaf, public, private, var, ax, entry, rigid, Tree, Trees, leaf, app, none, more, StandsIn, IsAmong, itself, below, in_first, in_rest}
-use Rattle.dps_terms.specs.Replace.{replace, replace_all, substitute, substitute_all, variables_to, rigid_names_to, entries_to, put_entries}
+use Rattle.dps_terms.specs.Tree.{Leaf, public, private, var, ax, entry, rigid, Tree, Trees, leaf, app, none, more, StandsIn, IsAmong, below, in_first, in_rest}
+use Rattle.dps_terms.specs.Replace.{replace_all, substitute, substitute_all, variables_to, rigid_names_to, entries_to, put_entries}
 use Rattle.dps_terms.specs.Bindings.{bound}
-use Rattle.dps_terms.specs.Kinds.{IsBuiltOf, AreBuiltOf, AnySymbol, IsNoVariable, IsKnowledgeLeaf}
+use Rattle.dps_terms.specs.Kinds.{AnySymbol}
 use Rattle.dps_terms.proofs.Replacing.{replace_stays, replace_agrees}
 use Rattle.dps_terms.proofs.Building.{leaf_meets}
 use Rattle.dps_unify.specs.Matching.{Agrees}
 use Rattle.dps_unify.proofs.Trees.{in_leaf}
-use Rattle.dps_static.specs.Ways.{AnyName}
-use Rattle.dps_static.specs.Generic.{AnyRigid, IsOpenWay, IsBuilt, AreBuilt, IsNoRigidLeaf, HasNoRigidName, generic, filled, Extends, IsBoundBy, IsSettled, AreSettled, IsFound, Covers, CoversAll, CoversEntries}
-use Rattle.dps_static.proofs.Ways.{there-numbered}
+use Rattle.dps_static.specs.Ways.{IsOpenWay}
+use Rattle.dps_static.specs.Generic.{IsBuilt, AreBuilt, IsNoRigidLeaf, HasNoRigidName, generic, filled, Extends, IsBoundBy, IsSettled, AreSettled, IsFound, Covers, CoversAll, CoversEntries}
+use Rattle.dps_static.proofs.Ways.{AreOpenWays, there-numbered}
 
 -- a tree without rigid names is left by filling
 pub filled_stays : (z : ℕ → Tree) (t : Tree) → HasNoRigidName t → filled z t ≡ t
@@ -29,11 +28,6 @@ filled_stays z t h = replace_stays (rigid_names_to z) t (λ x k. stays x (leaf_m
     stays (var n) l = refl
     stays (ax n) l = refl
     stays (entry n) l = refl
-
--- open ways as a list of arguments
-pub record AreOpenWays (n : ℕ) (ways : Trees) : Type 0 where
-  pub known : AreBuiltOf (IsKnowledgeLeaf AnyName AnyRigid n) AnySymbol ways
-  pub closed : AreBuiltOf IsNoVariable AnySymbol ways
 
 pub record HasOpenWays (kept : List Tree) (ts : Trees) : Type 0 where
   pub ways : Trees

@@ -1,23 +1,19 @@
 -- Ways over kept values, and what they become as recipes over the frame.
-use Rattle.std.proofs.Common.{◌≡◌, ℕ, zero, suc, ◌<◌, ◌≤◌, List, length, slice_get, get_or, Some, refl, sym, ◌∙◌, ap, subst, arith, inl, inr}
+use Rattle.std.proofs.Common.{◌≡◌, ℕ, zero, suc, ◌<◌, List, length, get_or, sym, ◌∙◌, subst, arith}
 use Rattle.std.proofs.lemmas.Option.{slice_get-get_or}
 use Rattle.dps_terms.specs.declared.Sym.{Sym}
 use Rattle.dps_terms.specs.declared.SymKind.TheVariants.{Constructor, Destructor}
 use Rattle.dps_terms.specs.Tree.{Leaf, public, private, var, ax, entry, rigid, Tree, Trees, leaf, app, none, more, count}
-use Rattle.dps_terms.specs.Replace.{replace_all, numbered, handles_to, in_frame, entries_to, put_entries}
+use Rattle.dps_terms.specs.Replace.{replace_all, handles_to, in_frame, entries_to, put_entries}
 use Rattle.dps_terms.specs.Signature.{HasShape}
-use Rattle.dps_terms.specs.Kinds.{AreBuiltOf, AnyLeaf, AnySymbol, IsNoVariable, IsKnowledgeLeaf, IsConstructorTerm, AreConstructorTerms, NoRigidName}
+use Rattle.dps_terms.specs.Kinds.{AreBuiltOf, AnySymbol, IsNoVariable, IsKnowledgeLeaf, IsConstructorTerm, AreConstructorTerms, NoRigidName}
 use Rattle.dps_terms.proofs.Building.{count-replace_all}
 use Rattle.dps_theory.specs.Theory.{Theory}
 use Rattle.dps_theory.specs.Evaluation.{Evaluates, EvaluateAll, Reduces, named, constructed, reduced, no_terms, a_term}
 use Rattle.dps_theory.specs.Frames.{HasValue}
 use Rattle.dps_static.specs.Ways.{AnyName, IsWay}
+use Rattle.dps_static.specs.Saturation.{AreValuesOf}
 use Rattle.dps_static.proofs.Ways.{numbered-there}
-
--- each kept tree is the value of the recipe at its place
-pub record AreValuesOf (theory : Theory) (frame recipes kept : List Tree) : Type 0 where
-  pub same_length : length recipes ≡ length kept
-  pub values : (i : ℕ) (r v : Tree) → slice_get recipes i ≡ Some r → slice_get kept i ≡ Some v → HasValue theory frame r v
 
 module _ (theory : Theory) (frame recipes kept : List Tree) (values : AreValuesOf theory frame recipes kept) where
   expanded_entry : (k : ℕ) → k < length kept → Evaluates theory (in_frame frame (put_entries recipes (leaf (entry (suc k))))) (put_entries kept (leaf (entry (suc k))))

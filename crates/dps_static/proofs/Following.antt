@@ -7,7 +7,7 @@ use Rattle.dps_terms.specs.Replace.{put_entries}
 use Rattle.dps_static.specs.Ways.{Builds, Composes}
 use Rattle.dps_static.specs.Follows.{Follows}
 use Rattle.dps_static.specs.Passing.{ComposesAlike, RepeatsAt, ComposesAlikeAt}
-use Rattle.dps_static.proofs.Ways.{AreWays, put_all, first_is_one, numbered-there, IsEntryWay, entry_or_composed, composed_leaf, composed_app}
+use Rattle.dps_static.proofs.Ways.{AreOpenWays, put_all, first_is_one, numbered-there, IsEntryWay, entry_or_composed, composed_leaf, composed_app}
 
 -- what a loop over the kept trees has seen before place n
 pub record PassBefore (kept counterparts : List Tree) (n : ℕ) : Type 0 where
@@ -65,13 +65,13 @@ module _ (kept counterparts : List Tree) (lengths : length kept ≡ length count
         let q = composed_app kept f ts w d in
         ap (put_entries counterparts) p.is ∙ ap (app f) (all_alike ts p.arguments q.arguments p.are_ways q.are_ways p.give q.give) ∙ sym (ap (put_entries counterparts) q.is)
 
-    all_alike : (ts vs ws : Trees) → AreWays (length kept) vs → AreWays (length kept) ws → put_all kept vs ≡ ts → put_all kept ws ≡ ts → put_all counterparts vs ≡ put_all counterparts ws
+    all_alike : (ts vs ws : Trees) → AreOpenWays (length kept) vs → AreOpenWays (length kept) ws → put_all kept vs ≡ ts → put_all kept ws ≡ ts → put_all counterparts vs ≡ put_all counterparts ws
     all_alike none none none p q d e = refl
     all_alike (more t ts) (more v vs) (more w ws) p q d e =
-        let b : Builds kept t v = record { is_way = (p.closed.0, p.known.0); gives = cc } in
-        let c : Builds kept t w = record { is_way = (q.closed.0, q.known.0); gives = cc } in
+        let b : Builds kept t v = record { is_way = (p.known.0, p.closed.0); gives = cc } in
+        let c : Builds kept t w = record { is_way = (q.known.0, q.closed.0); gives = cc } in
         let one = any_alike t (composed_alike t) v w (entry_or_composed kept t v b) (entry_or_composed kept t w c) in
-        let rest = all_alike ts vs ws (record { closed = p.closed.1; known = p.known.1 }) (record { closed = q.closed.1; known = q.known.1 }) (cc) (cc) in
+        let rest = all_alike ts vs ws (record { known = p.known.1; closed = p.closed.1 }) (record { known = q.known.1; closed = q.closed.1 }) (cc) (cc) in
         λ i. more (one i) (rest i)
     all_alike _ _ _ p q d e = cc
 

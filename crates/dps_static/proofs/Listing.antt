@@ -1,16 +1,14 @@
 -- What covers a pattern, leaf by leaf and argument by argument.
-use Rattle.std.proofs.Common.{◌≡◌, ℕ, zero, suc, ◌+◌, ◌≤◌, List, [], ◌∷◌, ◌++◌, length, slice_get, take, Some, refl, sym, ◌∙◌, ap, subst, inl, inr}
-use Rattle.std.specs.Prelude.{Contains}
+use Rattle.std.proofs.Common.{◌≡◌, ℕ, ◌+◌, ◌≤◌, List, [], ◌∷◌, ◌++◌, length, slice_get, take, Some, refl, sym, ◌∙◌, ap, subst}
 use Rattle.std.proofs.lemmas.List.{take_all, take_more}
 use Rattle.std.proofs.lemmas.Option.{slice_get_within, get_or_from_slice_get}
 use Rattle.dps_terms.specs.declared.Sym.{Sym}
 use Rattle.dps_terms.specs.declared.borrowed.TermView.TheVariants.{App}
-use Rattle.dps_terms.specs.Tree.{Leaf, public, private, var, ax, entry, rigid, Tree, Trees, leaf, app, none, more, list_of, trees, StandsIn}
+use Rattle.dps_terms.specs.Tree.{Leaf, public, private, var, ax, entry, rigid, Tree, leaf, app, trees}
 use Rattle.dps_terms.specs.Replace.{substitute, substitute_all}
-use Rattle.dps_terms.specs.Views.{leaf_view, view_of, arguments}
-use Rattle.dps_unify.specs.Matching.{Agrees}
+use Rattle.dps_terms.specs.Views.{view_of, arguments}
 use Rattle.dps_unify.proofs.Trees.{in_leaf}
-use Rattle.dps_static.specs.Generic.{IsBuilt, AreBuilt, generic, Extends, IsSettled, AreSettled, IsFound, Covers, CoversAll, CoversEntries}
+use Rattle.dps_static.specs.Generic.{IsBuilt, AreBuilt, generic, Extends, IsSettled, AreSettled, Covers, CoversAll, CoversEntries}
 use Rattle.dps_static.proofs.Ways.{trees-list_of, no_app_leaf}
 use Rattle.dps_static.proofs.Covering.{covers_variable, covers_public, covers_app, extends_in_turn, settled_later, found_now}
 

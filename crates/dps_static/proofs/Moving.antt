@@ -1,13 +1,12 @@
 -- One use of a rule over ways to build from the kept trees, carried over to the counterparts.
-use Rattle.std.proofs.Common.{◌≡◌, ℕ, List, [], ◌∷◌, length, slice_get, unwrap_or, Some, None, refl, sym, ◌∙◌, ap, subst, inl, inr}
-use Rattle.std.specs.Prelude.{◌⊎◌, Option, Contains}
+use Rattle.std.proofs.Common.{◌≡◌, ℕ, List, length, unwrap_or, Some, None, refl, sym, ◌∙◌, ap, subst, inl, inr}
+use Rattle.std.specs.Prelude.{Option}
 use Rattle.dps_terms.specs.declared.Sym.{Sym}
-use Rattle.dps_terms.specs.declared.PublicName.TheVariants.{Declared}
-use Rattle.dps_terms.specs.Tree.{Leaf, public, private, var, ax, entry, rigid, Tree, Trees, leaf, app, StandsIn, IsAmong, IsStrictSubterm, below}
-use Rattle.dps_terms.specs.Replace.{replace, replace_all, substitute, substitute_all, rigid_names_to, entries_to, put_entries}
+use Rattle.dps_terms.specs.Tree.{var, rigid, Tree, Trees, leaf, app, StandsIn, IsAmong, below}
+use Rattle.dps_terms.specs.Replace.{replace_all, substitute, substitute_all, rigid_names_to, entries_to, put_entries}
 use Rattle.dps_terms.specs.Bindings.{bound}
 use Rattle.dps_terms.specs.Variables.{variables}
-use Rattle.dps_terms.specs.Kinds.{AnySymbol, IsNoVariable, IsClosed}
+use Rattle.dps_terms.specs.Kinds.{AnySymbol, IsNoVariable}
 use Rattle.dps_terms.proofs.Subterms.{nested, strict_is_subterm}
 use Rattle.dps_terms.proofs.Building.{leaf_meets}
 use Rattle.dps_terms.proofs.Listing.{variables_are_those}
@@ -16,16 +15,12 @@ use Rattle.dps_theory.specs.Theory.{Rule, Theory, HasRule, IsAccepted, IsBounded
 use Rattle.dps_theory.specs.Evaluation.{Reduces}
 use Rattle.dps_theory.specs.Laws.{KeepsRules}
 use Rattle.dps_theory.proofs.Renaming.{replace-substitute, replaced_reduct, plain_rules_kept}
-use Rattle.dps_static.specs.Generic.{IsOpenWay, IsBuilt, AreBuilt, IsBoundBy, HasNoRigidName, generic, filled, all_filled, AreSettled}
-use Rattle.dps_static.proofs.Covering.{filled_stays, same_instances, AreOpenWays, HasOpenWays, built_ways, ways_built, settled_built, parts_variables}
-use Rattle.dps_static.proofs.Stepping.{HaveNoRigidName, put_filled, put_all_filled, filled_way, filled_ways, Fills, fills}
-
--- what two ways that may hold rigid names build alike from the kept trees they build alike from the counterparts
-pub record FollowsOpenly (kept counterparts : List Tree) : Type 0 where
-  pub stays :
-      (one other : Tree) → IsOpenWay (length kept) one → IsOpenWay (length kept) other
-      → put_entries kept one ≡ put_entries kept other
-      → put_entries counterparts one ≡ put_entries counterparts other
+use Rattle.dps_static.specs.Ways.{IsOpenWay}
+use Rattle.dps_static.specs.Follows.{Follows}
+use Rattle.dps_static.specs.Generic.{AreBuilt, HasNoRigidName, HaveNoRigidName, generic, filled, all_filled, AreSettled}
+use Rattle.dps_static.proofs.Covering.{filled_stays, same_instances, HasOpenWays, built_ways, ways_built, settled_built, parts_variables}
+use Rattle.dps_static.proofs.Ways.{AreOpenWays}
+use Rattle.dps_static.proofs.Stepping.{put_filled, put_all_filled, filled_way, filled_ways, Fills, fills}
 
 abbrev pub put_all : List Tree → Trees → Trees
 put_all kept ways = replace_all (entries_to kept) ways
@@ -54,7 +49,7 @@ below_root t g ps n e k = go (subst (StandsIn (var n)) e k)
     go : StandsIn (var n) (app g ps) → IsAmong (leaf (var n)) ps
     go (below m) = m
 
-module _ (theory : Theory) (plain : HasPlainRules theory) (accepted : IsAccepted theory) (kept counterparts : List Tree) (low : HaveNoRigidName kept) (lower : HaveNoRigidName counterparts) (follows : FollowsOpenly kept counterparts) where
+module _ (theory : Theory) (plain : HasPlainRules theory) (accepted : IsAccepted theory) (kept counterparts : List Tree) (low : HaveNoRigidName kept) (lower : HaveNoRigidName counterparts) (follows : Follows kept counterparts) where
   module _ (g : Sym) (ws ps : Trees) (rule : Rule) (left : rule.left ≡ app g ps) (listed : HasRule theory rule) (z : ℕ → Tree) (clean : (n : ℕ) → HasNoRigidName (z n)) (s : List (ℕ × Tree)) (agrees : Agrees z s) (settled : AreSettled kept z s ps) where
     filling : Fills kept z s (variables rule.left)
     filling = fills kept z s (variables rule.left) (λ n c. parts_variables kept z s ps settled n (below_root rule.left g ps n left ((variables_are_those rule.left n).0 c)))
@@ -114,7 +109,7 @@ module _ (theory : Theory) (plain : HasPlainRules theory) (accepted : IsAccepted
         moved filling are e h (p.passed h.ways h.are_ways h.give)
 
 -- One way to build the patterns' generic instance tells of all of them.
-pub passed_by_one : (theory : Theory) (kept counterparts : List Tree) (g : Sym) (ps : Trees) (right : Tree) (s : List (ℕ × Tree)) (ws : Trees) → FollowsOpenly kept counterparts → AreOpenWays (length kept) ws → put_all kept ws ≡ substitute_all (generic s) ps → Moves theory kept counterparts g ws (substitute (generic s) right) → IsPassed theory kept counterparts g ps right s
+pub passed_by_one : (theory : Theory) (kept counterparts : List Tree) (g : Sym) (ps : Trees) (right : Tree) (s : List (ℕ × Tree)) (ws : Trees) → Follows kept counterparts → AreOpenWays (length kept) ws → put_all kept ws ≡ substitute_all (generic s) ps → Moves theory kept counterparts g ws (substitute (generic s) right) → IsPassed theory kept counterparts g ps right s
 passed_by_one theory kept counterparts g ps right s ws follows are e m = record {
   passed = λ ways h d.
       let alike : app g (put_all counterparts ws) ≡ app g (put_all counterparts ways) =

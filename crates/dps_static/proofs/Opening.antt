@@ -1,21 +1,20 @@
--- What holds of ways without rigid names holds of all ways: new names of the attacker stand for the rigid ones.
-use Rattle.std.proofs.Common.{◌≡◌, ℕ, ◌+◌, ◌-◌, ◌<◌, List, length, refl, sym, ◌∙◌, ap, subst, arith, inl, inr, true, false}
-use Rattle.std.specs.Prelude.{◌⊎◌, Bool, cond}
+-- Open ways, and ways without rigid names: new names of the attacker stand for the rigid ones.
+use Rattle.std.proofs.Common.{◌≡◌, ℕ, ◌+◌, ◌-◌, List, refl, arith, false}
+use Rattle.std.specs.Prelude.{cond}
 use Rattle.std.proofs.Math.Dec.{ltb}
 use Rattle.std.proofs.lemmas.Bool.{lt-ltb, ltb-true, false_from_ne_true}
+use Rattle.dps_terms.specs.declared.SymKind.TheVariants.{Constructor}
 use Rattle.dps_terms.specs.declared.PublicName.{PublicName}
 use Rattle.dps_terms.specs.declared.PublicName.TheVariants.{Declared, At}
-use Rattle.dps_terms.specs.Tree.{Leaf, public, private, var, ax, entry, rigid, Tree, Trees, leaf, app, none, more, StandsIn}
+use Rattle.dps_terms.specs.Tree.{Leaf, public, private, var, ax, entry, rigid, Tree, Trees, leaf, app, none, more}
 use Rattle.dps_terms.specs.Replace.{replace, rigid_names_to, put_entries}
-use Rattle.dps_terms.specs.Kinds.{AreBuiltOf, AnySymbol, IsNoVariable, IsKnowledgeLeaf, NoRigidName}
-use Rattle.dps_terms.proofs.Replacing.{undone_is_injective}
-use Rattle.dps_terms.proofs.Building.{leaf_meets}
-use Rattle.dps_theory.proofs.FreshNames.{LeafBelow, Below, bound, is_below}
-use Rattle.dps_static.specs.Ways.{AnyName, IsWay}
-use Rattle.dps_static.specs.Follows.{Follows}
-use Rattle.dps_static.specs.Generic.{AnyRigid, IsOpenWay, filled, all_filled}
-use Rattle.dps_static.proofs.Stepping.{HaveNoRigidName, put_filled}
-use Rattle.dps_static.proofs.Moving.{FollowsOpenly}
+use Rattle.dps_terms.specs.Signature.{Shape, HasShape}
+use Rattle.dps_terms.specs.Kinds.{AreBuiltOf, AnySymbol, IsNoVariable, IsKnowledgeLeaf, IsKnowledgeTree, NoRigidName, IsFrameLeaf, IsFrameMessage}
+use Rattle.dps_terms.proofs.Building.{built_weaker}
+use Rattle.dps_theory.proofs.FreshNames.{LeafBelow}
+use Rattle.dps_static.specs.Ways.{AnyName, AnyRigid, IsWay, IsOpenWay}
+use Rattle.dps_static.specs.Generic.{IsNoRigidLeaf, HasNoRigidName, filled, all_filled}
+use Rattle.dps_static.proofs.Ways.{AreWays, AreOpenWays, put_all}
 
 -- names of the attacker from a number on
 abbrev pub newly : ℕ → ℕ → Tree
@@ -43,17 +42,7 @@ undone b (rigid k) h =
     let same : b + k - b ≡ k = omega arith in
     rw (not_below b k, same) refl
 
--- filled with new names, different trees stay different
-filled_apart : (t u : Tree) → filled (newly (bound t + bound u)) t ≡ filled (newly (bound t + bound u)) u → t ≡ u
-filled_apart t u e =
-    let b = bound t + bound u in
-    undone_is_injective (rigid_names_to (newly b)) (back b) t u
-    (λ x k. elim k [
-      | inl l ↦ undone b x (leaf_meets (LeafBelow b) AnySymbol (is_below t b (omega arith)) l)
-      | inr r ↦ undone b x (leaf_meets (LeafBelow b) AnySymbol (is_below u b (omega arith)) r)
-    ]) e
-
--- and ways become ways without rigid names
+-- open ways become ways without rigid names
 module _ (n b : ℕ) where
   leaf_way : (x : Leaf) → IsOpenWay n (leaf x) → IsWay n (rigid_names_to (newly b) x)
   leaf_way (rigid k) h = (tt, tt)
@@ -64,7 +53,7 @@ module _ (n b : ℕ) where
   leaf_way (entry k) h = (h.1, h.0)
 
   mutual
-    way_of : (w : Tree) → IsOpenWay n w → IsWay n (filled (newly b) w)
+    pub way_of : (w : Tree) → IsOpenWay n w → IsWay n (filled (newly b) w)
     way_of (leaf x) h = leaf_way x h
     way_of (app f ws) h = let k = ways_of ws h.0.1 h.1.1 in ((tt, k.0), (tt, k.1))
 
@@ -74,14 +63,57 @@ module _ (n b : ℕ) where
         let a = way_of w (h.0, k.0) in
         let c = ways_of ws h.1 k.1 in ((a.0, c.0), (a.1, c.1))
 
-pub follows_openly : (kept counterparts : List Tree) → HaveNoRigidName kept → HaveNoRigidName counterparts → Follows kept counterparts → FollowsOpenly kept counterparts
-follows_openly kept counterparts low lower follows = record {
-  stays = λ one other h k e.
-      let t = put_entries counterparts one in
-      let u = put_entries counterparts other in
-      let b = bound t + bound u in
-      let alike : put_entries kept (filled (newly b) one) ≡ put_entries kept (filled (newly b) other) =
-      put_filled kept low (newly b) one ∙ (ap (filled (newly b)) e ∙ sym (put_filled kept low (newly b) other)) in
-      let there = follows.stays (filled (newly b) one) (filled (newly b) other) (way_of (length kept) b one h) (way_of (length kept) b other k) alike in
-      filled_apart t u (sym (put_filled counterparts lower (newly b) one) ∙ (there ∙ put_filled counterparts lower (newly b) other));
-}
+-- a way that builds a tree without rigid names has none itself
+module _ (kept : List Tree) (n : ℕ) where
+  leaf_closed : (x : Leaf) → IsOpenWay n (leaf x) → HasNoRigidName (put_entries kept (leaf x)) → IsWay n (leaf x)
+  leaf_closed (rigid k) h c = absurd c
+  leaf_closed (public a) h c = (tt, tt)
+  leaf_closed (private k) h c = absurd h.0
+  leaf_closed (var k) h c = absurd h.1
+  leaf_closed (ax k) h c = absurd h.0
+  leaf_closed (entry k) h c = (h.1, h.0)
+
+  mutual
+    pub way_closed : (w : Tree) → IsOpenWay n w → HasNoRigidName (put_entries kept w) → IsWay n w
+    way_closed (leaf x) h c = leaf_closed x h c
+    way_closed (app f ws) h c = let k = ways_closed ws (record { known = h.0.1; closed = h.1.1 }) c.1 in ((tt, k.closed), (tt, k.known))
+
+    pub ways_closed : (ws : Trees) → AreOpenWays n ws → AreBuiltOf IsNoRigidLeaf AnySymbol (put_all kept ws) → AreWays n ws
+    ways_closed none h c = record { closed = tt; known = tt }
+    ways_closed (more w ws) h c =
+        let one = way_closed w (h.known.0, h.closed.0) c.0 in
+        let rest = ways_closed ws (record { known = h.known.1; closed = h.closed.1 }) c.1 in
+        record { closed = (one.0, rest.closed); known = (one.1, rest.known) }
+
+-- ways without rigid names are open ways
+pub way_opened : (n : ℕ) (w : Tree) → IsWay n w → IsOpenWay n w
+way_opened n w h = (go w h.1, h.0)
+  where
+    go_leaf : (x : Leaf) → IsKnowledgeLeaf AnyName NoRigidName n x → IsKnowledgeLeaf AnyName AnyRigid n x
+    go_leaf (rigid k) h = absurd h
+    go_leaf (public a) h = tt
+    go_leaf (private k) h = h
+    go_leaf (var k) h = tt
+    go_leaf (ax k) h = h
+    go_leaf (entry k) h = h
+
+    go : (w : Tree) → IsKnowledgeTree AnyName NoRigidName AnySymbol n w → IsKnowledgeTree AnyName AnyRigid AnySymbol n w
+    go w h = built_weaker (IsKnowledgeLeaf AnyName NoRigidName n) AnySymbol (IsKnowledgeLeaf AnyName AnyRigid n) w h go_leaf
+
+-- messages of a frame hold no rigid name
+message_leaf : (x : Leaf) → IsFrameLeaf x → IsNoRigidLeaf x
+message_leaf (rigid k) h = absurd h
+message_leaf (public a) h = tt
+message_leaf (private n) h = tt
+message_leaf (var n) h = tt
+message_leaf (ax j) h = tt
+message_leaf (entry i) h = tt
+
+mutual
+  pub message_low : (known : List Shape) (t : Tree) → IsFrameMessage known t → HasNoRigidName t
+  message_low known (leaf x) h = message_leaf x h
+  message_low known (app f ts) h = (tt, messages_low known ts h.1)
+
+  messages_low : (known : List Shape) (ts : Trees) → AreBuiltOf IsFrameLeaf (HasShape known Constructor) ts → AreBuiltOf IsNoRigidLeaf AnySymbol ts
+  messages_low known none h = tt
+  messages_low known (more t ts) h = (message_low known t h.0, messages_low known ts h.1)

@@ -1,24 +1,16 @@
 -- One destructor: what reduces over ways to build from the kept trees reduces over the same ways from the counterparts.
-use Rattle.std.proofs.Common.{◌≡◌, ℕ, zero, suc, List, [], ◌∷◌, length, slice_get, unwrap_or, nat_eq, if◌then◌else◌, true, false, Some, None, refl, sym, ◌∙◌, ap, subst, arith, inl, inr}
-use Rattle.std.specs.Prelude.{◌⊎◌, Option, Contains, All, ⊤}
+use Rattle.std.proofs.Common.{◌≡◌, ℕ, zero, suc, List, [], ◌∷◌, length, slice_get, unwrap_or, nat_eq, if◌then◌else◌, true, false, Some, None, refl, sym, ◌∙◌, ap, arith, inl, inr}
+use Rattle.std.specs.Prelude.{◌⊎◌, Option, Contains}
 use Rattle.std.proofs.lemmas.Bool.{cases_Bool, eqb-true, eq-eqb}
-use Rattle.dps_terms.specs.declared.Sym.{Sym}
 use Rattle.dps_terms.specs.declared.PublicName.TheVariants.{At}
-use Rattle.dps_terms.specs.Tree.{Leaf, public, private, var, ax, entry, rigid, Tree, Trees, leaf, app, none, more, StandsIn, IsAmong, IsStrictSubterm, itself, below, in_first, in_rest, strictly}
-use Rattle.dps_terms.specs.Replace.{replace, replace_all, substitute, substitute_all, variables_to, rigid_names_to, numbered, entries_to, put_entries}
+use Rattle.dps_terms.specs.Tree.{Leaf, public, private, var, ax, entry, rigid, Tree, Trees, leaf, app, none, more}
+use Rattle.dps_terms.specs.Replace.{replace_all, rigid_names_to, numbered, entries_to, put_entries}
 use Rattle.dps_terms.specs.Bindings.{bound}
-use Rattle.dps_terms.specs.Kinds.{IsBuiltOf, AreBuiltOf, AnySymbol, IsNoVariable, IsKnowledgeLeaf}
+use Rattle.dps_terms.specs.Kinds.{AreBuiltOf, AnySymbol, IsNoVariable, IsKnowledgeLeaf}
 use Rattle.dps_terms.proofs.Replacing.{replace_in_turn, replace_all_in_turn, replace_agrees, replace_all_agrees}
-use Rattle.dps_unify.specs.Matching.{Agrees}
-use Rattle.dps_theory.specs.Theory.{Rule, Theory, HasRule}
-use Rattle.dps_theory.specs.Evaluation.{Reduces}
-use Rattle.dps_static.specs.Ways.{AnyName}
-use Rattle.dps_static.specs.Generic.{AnyRigid, IsOpenWay, IsBuilt, IsBoundBy, HasNoRigidName, generic, filled, all_filled}
+use Rattle.dps_static.specs.Ways.{AnyName, AnyRigid, IsOpenWay}
+use Rattle.dps_static.specs.Generic.{IsBuilt, IsBoundBy, HaveNoRigidName, filled, all_filled}
 use Rattle.dps_static.proofs.Covering.{filled_stays}
-
--- no rigid name stands in the kept trees
-abbrev pub HaveNoRigidName : List Tree → Type 0
-HaveNoRigidName kept = (k : ℕ) (t : Tree) → slice_get kept k ≡ Some t → HasNoRigidName t
 
 -- filling goes through the kept trees
 module _ (kept : List Tree) (low : HaveNoRigidName kept) (r : ℕ → Tree) where

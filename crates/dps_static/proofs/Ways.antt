@@ -1,5 +1,5 @@
 -- Ways by their roots.
-use Rattle.std.proofs.Common.{◌≡◌, ℕ, zero, suc, ◌+◌, ◌<◌, ◌≤◌, List, [], ◌∷◌, ◌++◌, length, slice_get, unwrap_or, get_or, map, take, Some, refl, ap, sym, ◌∙◌, inl, inr, arith}
+use Rattle.std.proofs.Common.{◌≡◌, ℕ, zero, suc, ◌+◌, ◌<◌, ◌≤◌, List, [], ◌∷◌, ◌++◌, length, slice_get, unwrap_or, get_or, map, take, Option, Some, None, MatchOption, refl, ap, sym, subst, ◌∙◌, inl, inr, arith}
 use Rattle.std.specs.Prelude.{◌⊎◌}
 use Rattle.std.specs.Option.{option_map}
 use Rattle.std.proofs.lemmas.List.{map-append, length-map, take_all, take_more}
@@ -10,12 +10,17 @@ use Rattle.dps_terms.specs.Tree.{Leaf, public, private, var, ax, entry, rigid, T
 use Rattle.dps_terms.specs.Views.{leaf_view, view_of, arguments}
 use Rattle.dps_terms.specs.Replace.{replace_all, numbered, entries_to, put_entries}
 use Rattle.dps_terms.specs.Kinds.{IsBuiltOf, AreBuiltOf, AnySymbol, IsNoVariable, IsKnowledgeLeaf, NoRigidName}
-use Rattle.dps_static.specs.Ways.{AnyName, IsWay, Builds, IsNotBuilt, Composes, IsNotComposed, IsFirst}
+use Rattle.dps_static.specs.Ways.{AnyName, AnyRigid, IsOpenWay, Builds, IsNotBuilt, Composes, IsNotComposed, IsFirst, IsNotKept}
 
 -- a list of ways
 pub record AreWays (n : ℕ) (ways : Trees) : Type 0 where
   pub closed : AreBuiltOf IsNoVariable AnySymbol ways
   pub known : AreBuiltOf (IsKnowledgeLeaf AnyName NoRigidName n) AnySymbol ways
+
+-- a list of ways that may hold rigid names
+pub record AreOpenWays (n : ℕ) (ways : Trees) : Type 0 where
+  pub known : AreBuiltOf (IsKnowledgeLeaf AnyName AnyRigid n) AnySymbol ways
+  pub closed : AreBuiltOf IsNoVariable AnySymbol ways
 
 abbrev pub put_all : List Tree → Trees → Trees
 put_all kept ways = replace_all (entries_to kept) ways
@@ -45,23 +50,23 @@ entry_or_more kept tree (private n) b = inr (record { builds = b; root = tt })
 entry_or_more kept tree (var n) b = inr (record { builds = b; root = tt })
 entry_or_more kept tree (ax j) b = inr (record { builds = b; root = tt })
 entry_or_more kept tree (rigid n) b = inr (record { builds = b; root = tt })
-entry_or_more kept tree (entry zero) b = absurd (let h = b.is_way.1.0 in omega (arith, h))
+entry_or_more kept tree (entry zero) b = absurd (let h = b.is_way.0.0 in omega (arith, h))
 entry_or_more kept tree (entry (suc k)) b =
-    let h = b.is_way.1.1 in
+    let h = b.is_way.0.1 in
     inl (record { place = k; is = refl; there = there-numbered kept k tree (leaf (entry (suc k))) (omega (arith, h)) b.gives })
 
 pub entry_or_composed : (kept : List Tree) (tree way : Tree) → Builds kept tree way → IsEntryWay kept tree way ⊎ Composes kept tree way
 entry_or_composed kept tree (leaf x) b = entry_or_more kept tree x b
 entry_or_composed kept tree (app f ts) b = inr (record { builds = b; root = tt })
 
--- a composed leaf is a public name
+-- a composed leaf is a public or a rigid name
 pub leaf_gives : (kept : List Tree) (tree : Tree) (x : Leaf) → Composes kept tree (leaf x) → leaf x ≡ tree
 leaf_gives kept tree (public a) c = c.builds.gives
-leaf_gives kept tree (private n) c = absurd c.builds.is_way.1
-leaf_gives kept tree (var n) c = absurd c.builds.is_way.0
-leaf_gives kept tree (ax j) c = absurd c.builds.is_way.1
+leaf_gives kept tree (private n) c = absurd c.builds.is_way.0
+leaf_gives kept tree (var n) c = absurd c.builds.is_way.1
+leaf_gives kept tree (ax j) c = absurd c.builds.is_way.0
 leaf_gives kept tree (entry i) c = absurd c.root
-leaf_gives kept tree (rigid n) c = absurd c.builds.is_way.1
+leaf_gives kept tree (rigid n) c = c.builds.gives
 
 pub composed_leaf : (kept : List Tree) (x : Leaf) (way : Tree) → Composes kept (leaf x) way → way ≡ leaf x
 composed_leaf kept x (leaf y) c = leaf_gives kept (leaf x) y c
@@ -71,7 +76,7 @@ composed_leaf kept x (app f ts) c = let e = c.builds.gives in cc
 pub record IsAppWay (kept : List Tree) (f : Sym) (ts : Trees) (way : Tree) : Type 0 where
   pub arguments : Trees
   pub is : way ≡ app f arguments
-  pub are_ways : AreWays (length kept) arguments
+  pub are_ways : AreOpenWays (length kept) arguments
   pub give : put_all kept arguments ≡ ts
 
 pub composed_app : (kept : List Tree) (f : Sym) (ts : Trees) (way : Tree) → Composes kept (app f ts) way → IsAppWay kept f ts way
@@ -82,23 +87,23 @@ composed_app kept f ts (app g us) c =
     record {
       arguments = us;
       is = ap (λ s. app s us) m;
-      are_ways = record { closed = c.builds.is_way.0.1; known = c.builds.is_way.1.1 };
+      are_ways = record { known = c.builds.is_way.0.1; closed = c.builds.is_way.1.1 };
       give = cc;
     }
 
 -- ways as a list
 pub record AreListedWays (n : ℕ) (ways : List Tree) : Type 0 where
+  pub known : AreBuiltOf (IsKnowledgeLeaf AnyName AnyRigid n) AnySymbol (trees ways)
   pub closed : AreBuiltOf IsNoVariable AnySymbol (trees ways)
-  pub known : AreBuiltOf (IsKnowledgeLeaf AnyName NoRigidName n) AnySymbol (trees ways)
 
 built_further : (L : Leaf → Type 0) (ts : List Tree) (t : Tree) → AreBuiltOf L AnySymbol (trees ts) → IsBuiltOf L AnySymbol t → AreBuiltOf L AnySymbol (trees (ts ++ t ∷ []))
 built_further L [] t a b = (b, tt)
 built_further L (u ∷ ts) t a b = (a.0, built_further L ts t a.1 b)
 
-pub listed_further : (n : ℕ) (ways : List Tree) (way : Tree) → AreListedWays n ways → IsWay n way → AreListedWays n (ways ++ way ∷ [])
+pub listed_further : (n : ℕ) (ways : List Tree) (way : Tree) → AreListedWays n ways → IsOpenWay n way → AreListedWays n (ways ++ way ∷ [])
 listed_further n ways way a w = record {
-  closed = built_further IsNoVariable ways way a.closed w.0;
-  known = built_further (IsKnowledgeLeaf AnyName NoRigidName n) ways way a.known w.1;
+  known = built_further (IsKnowledgeLeaf AnyName AnyRigid n) ways way a.known w.0;
+  closed = built_further IsNoVariable ways way a.closed w.1;
 }
 
 -- what one more way gives
@@ -137,7 +142,7 @@ composes_app kept f (app g ts) ways v a e =
     let m : f ≡ g = cc in
     record {
       builds = record {
-        is_way = ((tt, a.closed), (tt, a.known));
+        is_way = ((tt, a.known), (tt, a.closed));
         gives = (λ i. app (m i) ((put_all-trees kept ways ∙ ap trees e ∙ trees-list_of ts) i));
       };
       root = tt;
@@ -145,12 +150,12 @@ composes_app kept f (app g ts) ways v a e =
 composes_app kept f (leaf x) ways v a e = absurd (no_app_leaf x f v)
 
 -- where an argument is built in no way, the tree is composed in none
-nth_way : (kept : List Tree) (ts ways : Trees) (i : ℕ) (tree : Tree) → AreWays (length kept) ways → put_all kept ways ≡ ts → slice_get (list_of ts) i ≡ Some tree → (way : Tree) × Builds kept tree way
+nth_way : (kept : List Tree) (ts ways : Trees) (i : ℕ) (tree : Tree) → AreOpenWays (length kept) ways → put_all kept ways ≡ ts → slice_get (list_of ts) i ≡ Some tree → (way : Tree) × Builds kept tree way
 nth_way kept none none i tree a e d = absurd (none-some tree d)
 nth_way kept (more t ts) (more w ws) zero tree a e d =
-    let m : put_entries kept w ≡ tree = cc in (w, record { is_way = (a.closed.0, a.known.0); gives = m })
+    let m : put_entries kept w ≡ tree = cc in (w, record { is_way = (a.known.0, a.closed.0); gives = m })
 nth_way kept (more t ts) (more w ws) (suc i) tree a e d =
-    let m : put_all kept ws ≡ ts = cc in nth_way kept ts ws i tree (record { closed = a.closed.1; known = a.known.1 }) m d
+    let m : put_all kept ws ≡ ts = cc in nth_way kept ts ws i tree (record { known = a.known.1; closed = a.closed.1 }) m d
 nth_way kept _ _ i tree a e d = absurd (let z = e in cc)
 
 pub argument_not_built : (kept : List Tree) (tree argument : Tree) (i : ℕ) → slice_get (arguments tree) i ≡ Some argument → IsNotBuilt kept argument → IsNotComposed kept tree
@@ -213,3 +218,22 @@ put_whole kept (leaf x) f made i v e h = absurd (no_app_leaf x f v)
 put_whole kept (app g ws) f made i v e h =
     let m : f ≡ g = cc in
     λ j. app (m j) ((ap trees (e ∙ ap (map (put_entries kept)) (take_all i (list_of ws) h) ∙ sym (put_all-list_of kept ws)) ∙ trees-list_of (put_all kept ws)) j)
+
+-- the entry of a kept tree builds it
+pub entry_builds : (kept : List Tree) (tree way : Tree) (i : ℕ) → IsFirst kept tree i → way ≡ leaf (entry (suc i)) → Builds kept tree way
+entry_builds kept tree way i first e =
+    let l = slice_get_within kept i tree first.here in
+    subst (Builds kept tree) (sym e) (record {
+      is_way = ((omega arith, omega (arith, l)), tt);
+      gives = numbered-there kept i tree (leaf (entry (suc i))) first.here;
+    })
+
+-- what is not kept is built where it is composed
+pub built_composed : (kept : List Tree) (tree : Tree) (o : Option Tree) → IsNotKept kept tree → MatchOption o (IsNotComposed kept tree) (Composes kept tree) → MatchOption o (IsNotBuilt kept tree) (Builds kept tree)
+built_composed kept tree (Some way) never c = c.builds
+built_composed kept tree None never c =
+    λ way b.
+    elim (entry_or_composed kept tree way b) [
+      | inl e ↦ never e.place e.there
+      | inr d ↦ c way d
+    ]

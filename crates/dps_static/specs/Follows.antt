@@ -2,13 +2,13 @@
 use Rattle.std.specs.Prelude.{◌≡◌, ℕ, List, length, slice_get, Some}
 use Rattle.dps_terms.specs.Tree.{Tree}
 use Rattle.dps_terms.specs.Replace.{put_entries}
-use Rattle.dps_static.specs.Ways.{IsWay, Builds}
+use Rattle.dps_static.specs.Ways.{IsOpenWay, Builds}
 use Rattle.dps_static.specs.declared.follow.TwoWays.{TwoWays}
 
 -- what two ways build alike from the kept trees they build alike from the counterparts, the i-th for the i-th
 pub record Follows (kept counterparts : List Tree) : Type 0 where
   pub stays :
-      (one other : Tree) → IsWay (length kept) one → IsWay (length kept) other
+      (one other : Tree) → IsOpenWay (length kept) one → IsOpenWay (length kept) other
       → put_entries kept one ≡ put_entries kept other
       → put_entries counterparts one ≡ put_entries counterparts other
 

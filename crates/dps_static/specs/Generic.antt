@@ -1,22 +1,14 @@
 -- Instances of patterns that are built from kept trees. A variable of the pattern that no kept tree binds is left open: a
 -- rigid name with its number stands for it.
-use Rattle.std.specs.Prelude.{◌≡◌, ◌⊎◌, ℕ, List, length, Some, unwrap_or, Contains, ⊤}
+use Rattle.std.specs.Prelude.{◌≡◌, ◌⊎◌, ℕ, List, length, slice_get, Some, unwrap_or, Contains, ⊤}
 use Rattle.dps_terms.specs.Tree.{Leaf, public, private, var, ax, entry, rigid, Tree, Trees, leaf, none, more, StandsIn}
 use Rattle.dps_terms.specs.Replace.{replace, replace_all, substitute, substitute_all, rigid_names_to, put_entries}
 use Rattle.dps_terms.specs.Bindings.{bound}
-use Rattle.dps_terms.specs.Kinds.{IsBuiltOf, AreBuiltOf, AnySymbol, IsClosed, IsKnowledgeTree}
+use Rattle.dps_terms.specs.Kinds.{IsBuiltOf, AnySymbol}
 use Rattle.dps_unify.specs.Matching.{Agrees}
-use Rattle.dps_static.specs.Ways.{AnyName}
+use Rattle.dps_static.specs.Ways.{IsOpenWay}
 
--- any rigid name may stand
-abbrev pub AnyRigid : ℕ → Type 0
-AnyRigid k = ⊤
-
--- a way to build from n kept trees that may hold rigid names besides
-abbrev pub IsOpenWay : ℕ → Tree → Type 0
-IsOpenWay n way = IsKnowledgeTree AnyName AnyRigid AnySymbol n way × IsClosed way
-
--- some such way builds the tree
+-- some way, which may hold rigid names, builds the tree
 pub record IsBuilt (kept : List Tree) (t : Tree) : Type 0 where
   pub way : Tree
   pub is_way : IsOpenWay (length kept) way
@@ -38,6 +30,9 @@ IsNoRigidLeaf (entry i) = ⊤
 
 abbrev pub HasNoRigidName : Tree → Type 0
 HasNoRigidName t = IsBuiltOf IsNoRigidLeaf AnySymbol t
+
+abbrev pub HaveNoRigidName : List Tree → Type 0
+HaveNoRigidName kept = (k : ℕ) (t : Tree) → slice_get kept k ≡ Some t → HasNoRigidName t
 
 -- what the pairs bind, and a rigid name for each other variable
 abbrev pub generic : List (ℕ × Tree) → ℕ → Tree

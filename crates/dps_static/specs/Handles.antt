@@ -11,6 +11,6 @@ abbrev pub handles : ℕ → List Tree
 handles zero = []
 handles (suc m) = handles m ++ leaf (ax (suc m)) ∷ []
 
--- whether the two ways build one value from a frame of m messages
-abbrev pub equality : ℕ → TwoWays → Test
-equality m ways = Equal (put_entries (handles m) ways.one) (put_entries (handles m) ways.other)
+-- whether the recipes that the two ways make of the kept ones have one value
+abbrev pub equality : List Tree → TwoWays → Test
+equality recipes ways = Equal (put_entries recipes ways.one) (put_entries recipes ways.other)

@@ -1,7 +1,15 @@
 pub mod Digest
 pub mod Ways
+pub mod Places
 pub mod Follows
 pub mod Passing
 pub mod Handles
 pub mod Answer
 pub mod Generic
+pub mod Binding
+pub mod Saturation
+pub mod Ending
+pub mod Uses
+pub mod Naming
+pub mod Telling
+pub mod Pairs

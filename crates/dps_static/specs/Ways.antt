@@ -1,4 +1,5 @@
--- Ways to build a tree from a list of kept ones: with symbols, public names, and the kept trees by their entries.
+-- Ways to build a tree from a list of kept ones: with symbols, public names, and the kept trees by their entries. An open
+-- way may hold rigid names besides, which stand for themselves.
 use Rattle.std.specs.Prelude.{◌≡◌, ℕ, ◌<◌, List, length, slice_get, Some, ⊤}
 use Rattle.dps_terms.specs.declared.PublicName.{PublicName}
 use Rattle.dps_terms.specs.Tree.{Leaf, public, private, var, ax, entry, rigid, Tree, leaf, app}
@@ -12,9 +13,17 @@ AnyName a = ⊤
 abbrev pub IsWay : ℕ → Tree → Type 0
 IsWay n way = IsClosed way × IsKnowledgeTree AnyName NoRigidName AnySymbol n way
 
--- the way builds the tree
+-- any rigid name may stand
+abbrev pub AnyRigid : ℕ → Type 0
+AnyRigid k = ⊤
+
+-- a way to build from n kept trees that may hold rigid names besides
+abbrev pub IsOpenWay : ℕ → Tree → Type 0
+IsOpenWay n way = IsKnowledgeTree AnyName AnyRigid AnySymbol n way × IsClosed way
+
+-- the way, which may hold rigid names, builds the tree
 pub record Builds (kept : List Tree) (tree way : Tree) : Type 0 where
-  pub is_way : IsWay (length kept) way
+  pub is_way : IsOpenWay (length kept) way
   pub gives : put_entries kept way ≡ tree
 
 -- no way builds the tree

@@ -1,29 +1,14 @@
-//! Ways to build a tree from kept ones.
-ghost use Rattle.std.specs.Prelude.{◌≡◌, ◌+◌, ◌<◌, ◌^◌, ◌↔◌, suc, IfOk, IsTrue, MatchOption, map, unwrap_or};
+//! Ways to build a tree from kept ones. A rigid name stands for itself.
+ghost use Rattle.std.specs.Prelude.{◌≡◌, ◌+◌, ◌<◌, ◌^◌, ◌↔◌, suc, IfOk, IsTrue, MatchOption, unwrap_or};
 ghost use Rattle.std.specs.Option.{option_copied};
 ghost use Rattle.dps_terms.specs.Tree.{Tree, leaf, entry};
 ghost use Rattle.dps_terms.specs.Replace.{numbered, put_entries};
 ghost use Rattle.dps_terms.specs.Seen.{seen};
-ghost use Rattle.dps_static.specs.Digest.{digest};
-ghost use Rattle.dps_static.specs.Ways.{Builds, Composes, IsFirst, IsNotBuilt, IsNotComposed, IsNotKept};
+ghost use Rattle.dps_static.specs.Ways.{Builds, Composes, IsNotBuilt, IsNotComposed};
 
-use crate::digest::digest;
+use crate::kept::Kept;
 use dps_terms::{NoMemory, Term, TermRef, TermView};
 use std::alloc::{AllocError, Global};
-
-/// The first place, counted from 0, at which the tree is kept, and `None` exactly where it is not kept.
-pub(crate) fn place(kept: &[Term], digests: &[u64], tree: TermRef<'_>) -> Option<usize>
-    requires { digests.now ≡ map digest kept.now }
-    ensures { MatchOption result (IsNotKept kept.now (seen tree.entry)) (IsFirst kept.now (seen tree.entry)) }
-{
-    let wanted = digest(tree);
-    for (i, found) in digests.iter().enumerate() {
-        if *found == wanted && kept[i].whole().equals(tree) {
-            return Some(i);
-        }
-    }
-    None
-}
 
 /// The entry of a place that is counted from 0.
 pub(crate) fn entry_at(alloc: Global, place: usize) -> Result<Term, NoMemory>
@@ -36,13 +21,7 @@ pub(crate) fn entry_at(alloc: Global, place: usize) -> Result<Term, NoMemory>
 
 /// A way to build the tree, and `None` exactly where there is none.
 #[cycle(build)]
-pub(crate) fn way(
-    alloc: Global,
-    kept: &[Term],
-    digests: &[u64],
-    tree: TermRef<'_>,
-) -> Result<Option<Term>, NoMemory>
-    requires { digests.now ≡ map digest kept.now }
+pub(crate) fn way(alloc: Global, kept: &Kept, tree: TermRef<'_>) -> Result<Option<Term>, NoMemory>
     ensures { IfOk result (λ o. MatchOption o (IsNotBuilt kept.now (seen tree.entry)) (Builds kept.now (seen tree.entry))) }
 {
     // A public name needs no look-up.
@@ -50,12 +29,15 @@ pub(crate) fn way(
         let term = Term::public(alloc, name)?;
         return Ok(Some(term));
     }
-    match place(kept, digests, tree) {
+    match kept.place(tree) {
         Some(i) => {
             let entry = entry_at(alloc, i)?;
             Ok(Some(entry))
         }
-        None => composed(alloc, kept, digests, tree),
+        None => {
+            let found = composed(alloc, kept, tree)?;
+            Ok(found)
+        }
     }
 }
 
@@ -63,18 +45,16 @@ pub(crate) fn way(
 #[cycle(build)]
 pub(crate) fn composed(
     alloc: Global,
-    kept: &[Term],
-    digests: &[u64],
+    kept: &Kept,
     tree: TermRef<'_>,
 ) -> Result<Option<Term>, NoMemory>
-    requires { digests.now ≡ map digest kept.now }
     ensures { IfOk result (λ o. MatchOption o (IsNotComposed kept.now (seen tree.entry)) (Composes kept.now (seen tree.entry))) }
 {
     match tree.view() {
         TermView::App(sym) => {
             let mut arguments = Vec::with_capacity(alloc, tree.arity() as usize)?;
             for i in 0..tree.arity() {
-                match way(alloc, kept, digests, tree.argument(i))? {
+                match way(alloc, kept, tree.argument(i))? {
                     Some(argument) => arguments.push(argument)?,
                     None => return Ok(None),
                 }
@@ -84,6 +64,10 @@ pub(crate) fn composed(
         }
         TermView::Public(name) => {
             let term = Term::public(alloc, name)?;
+            Ok(Some(term))
+        }
+        TermView::Rigid(number) => {
+            let term = Term::rigid(alloc, number)?;
             Ok(Some(term))
         }
         _ => Ok(None),

@@ -1,10 +1,9 @@
 //! Numbers of trees, by which most different trees are told apart without a walk.
-ghost use Rattle.std.specs.Prelude.{◌≡◌, IfOk, map};
+ghost use Rattle.std.specs.Prelude.{◌≡◌};
 ghost use Rattle.dps_terms.specs.Seen.{seen};
 ghost use Rattle.dps_static.specs.Digest.{mixed, digest};
 
-use dps_terms::{NoMemory, PublicName, Term, TermRef, TermView};
-use std::alloc::{AllocError, Global};
+use dps_terms::{PublicName, TermRef, TermView};
 
 /// One more number in a digest.
 #[inline]
@@ -37,11 +36,4 @@ pub(crate) fn digest(tree: TermRef<'_>) -> u64
         TermView::Entry(number) => mixed(6, number),
         TermView::Rigid(number) => mixed(7, number),
     }
-}
-
-/// The digests of all trees.
-pub(crate) fn digests(alloc: Global, trees: &[Term]) -> Result<Vec<u64>, NoMemory>
-    ensures { IfOk result (λ v. v.items ≡ map digest trees.now) }
-{
-    trees.iter().map(|tree| digest(tree.whole())).collect(alloc)
 }

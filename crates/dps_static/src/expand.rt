@@ -11,7 +11,7 @@ use dps_terms::{NoMemory, Term, TermRef, TermView};
 use std::alloc::{AllocError, Global};
 
 /// The recipes of a frame's messages: `ax1`, `ax2` and so on.
-fn handles(alloc: Global, count: u32) -> Result<Vec<Term>, NoMemory>
+pub(crate) fn handles(alloc: Global, count: u32) -> Result<Vec<Term>, NoMemory>
     ensures { IfOk result (λ v. v.items ≡ handles count) }
 {
     let mut recipes = Vec::with_capacity(alloc, count as usize)?;
@@ -23,7 +23,7 @@ fn handles(alloc: Global, count: u32) -> Result<Vec<Term>, NoMemory>
 }
 
 /// The way with the recipes of kept trees for their entries.
-fn expanded(alloc: Global, recipes: &[Term], way: TermRef<'_>) -> Result<Term, NoMemory>
+pub(crate) fn expanded(alloc: Global, recipes: &[Term], way: TermRef<'_>) -> Result<Term, NoMemory>
     ensures { IfOk result (λ t. t ≡ put_entries recipes.now (seen way.entry)) }
 {
     match way.view() {
@@ -44,12 +44,11 @@ fn expanded(alloc: Global, recipes: &[Term], way: TermRef<'_>) -> Result<Term, N
     }
 }
 
-/// Whether the two ways build one value from a frame of so many messages.
-pub(crate) fn question(alloc: Global, count: u32, ways: &TwoWays) -> Result<Test, NoMemory>
-    ensures { IfOk result (λ t. t ≡ equality count ways.now) }
+/// Whether the recipes that the two ways make of the kept ones have one value.
+pub(crate) fn question(alloc: Global, recipes: &[Term], ways: &TwoWays) -> Result<Test, NoMemory>
+    ensures { IfOk result (λ t. t ≡ equality recipes.now ways.now) }
 {
-    let recipes = handles(alloc, count)?;
-    let one = expanded(alloc, &recipes, ways.one.whole())?;
-    let other = expanded(alloc, &recipes, ways.other.whole())?;
+    let one = expanded(alloc, recipes, ways.one.whole())?;
+    let other = expanded(alloc, recipes, ways.other.whole())?;
     Ok(Test::Equal(one, other))
 }

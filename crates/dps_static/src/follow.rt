@@ -1,11 +1,10 @@
 //! Whether counterparts follow the kept trees.
-ghost use Rattle.std.specs.Prelude.{◌≡◌, ◌<◌, IfOk, MatchOption, length, map};
-ghost use Rattle.dps_static.specs.Digest.{digest};
+ghost use Rattle.std.specs.Prelude.{◌≡◌, ◌<◌, IfOk, MatchOption, length};
 ghost use Rattle.dps_static.specs.Follows.{Follows, IsDifference};
 ghost use Rattle.dps_static.specs.Passing.{RepeatsAt, ComposesAlikeAt};
 
-use crate::build::{builds, composed, entry_at, place};
-use crate::digest::digests;
+use crate::build::{builds, composed, entry_at};
+use crate::kept::Kept;
 use dps_terms::{NoMemory, Term};
 use std::alloc::{AllocError, Global};
 
@@ -20,17 +19,15 @@ pub(crate) struct TwoWays {
 /// first one's counterpart is the same.
 fn repeated(
     alloc: Global,
-    kept: &[Term],
-    digests: &[u64],
+    kept: &Kept,
     counterparts: &[Term],
     index: usize,
 ) -> Result<Option<TwoWays>, NoMemory>
-    requires told { digests.now ≡ map digest kept.now }
     requires lengths { length kept.now ≡ length counterparts.now }
     requires there { index < length kept.now }
     ensures { IfOk result (λ o. MatchOption o (RepeatsAt kept.now counterparts.now index) (IsDifference kept.now counterparts.now)) }
 {
-    match place(kept, digests, kept[index].whole()) {
+    match kept.place(kept.trees()[index].whole()) {
         Some(first) => {
             if counterparts[first].equals(&counterparts[index]) {
                 return Ok(None);
@@ -47,17 +44,15 @@ fn repeated(
 /// is not composed at all, or where the way builds the counterpart too.
 fn recomposed(
     alloc: Global,
-    kept: &[Term],
-    digests: &[u64],
+    kept: &Kept,
     counterparts: &[Term],
     index: usize,
 ) -> Result<Option<TwoWays>, NoMemory>
-    requires told { digests.now ≡ map digest kept.now }
     requires lengths { length kept.now ≡ length counterparts.now }
     requires there { index < length kept.now }
     ensures { IfOk result (λ o. MatchOption o (ComposesAlikeAt kept.now counterparts.now index) (IsDifference kept.now counterparts.now)) }
 {
-    match composed(alloc, kept, digests, kept[index].whole())? {
+    match composed(alloc, kept, kept.trees()[index].whole())? {
         Some(other) => {
             if builds(counterparts, other.whole(), counterparts[index].whole()) {
                 return Ok(None);
@@ -72,18 +67,17 @@ fn recomposed(
 /// A difference, and `None` exactly where the counterparts follow the kept trees.
 pub(crate) fn difference(
     alloc: Global,
-    kept: &[Term],
+    kept: &Kept,
     counterparts: &[Term],
 ) -> Result<Option<TwoWays>, NoMemory>
     requires { length kept.now ≡ length counterparts.now }
     ensures { IfOk result (λ o. MatchOption o (Follows kept.now counterparts.now) (IsDifference kept.now counterparts.now)) }
 {
-    let found = digests(alloc, kept)?;
-    for index in 0..kept.len() {
-        if let Some(ways) = repeated(alloc, kept, &found, counterparts, index)? {
+    for index in 0..kept.trees().len() {
+        if let Some(ways) = repeated(alloc, kept, counterparts, index)? {
             return Ok(Some(ways));
         }
-        if let Some(ways) = recomposed(alloc, kept, &found, counterparts, index)? {
+        if let Some(ways) = recomposed(alloc, kept, counterparts, index)? {
             return Ok(Some(ways));
         }
     }

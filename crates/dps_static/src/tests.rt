@@ -1,7 +1,10 @@
 //! A table of frames, told apart or not, and by which test.
-use crate::{Comparison, Test, compare};
-use dps_terms::{NoMemory, PublicName, Sym, Term};
+use crate::{Comparison, Test, compare, deduce, saturate};
+use dps_recipes::Frame;
+use dps_terms::{AddRefusal, NoMemory, PublicName, Signature, Sym, SymKind, Term, is_identifier};
+use dps_theory::Theory;
 use std::alloc::Global;
+use std::process::Abort;
 use std::test::Fail;
 
 /// The symbol of the number `arity` over the last terms.
@@ -33,6 +36,33 @@ fn terms(alloc: Global, letters: &[u8]) -> Result<Vec<Term>, NoMemory> {
     Ok(stack)
 }
 
+fn frame(alloc: Global, letters: &str) -> Result<Frame, NoMemory> {
+    let messages = terms(alloc, letters.as_bytes())?;
+    Ok(Frame { messages })
+}
+
+fn add(
+    rt: &impl Abort,
+    signature: &mut Signature,
+    name: &str,
+    kind: SymKind,
+    arity: u32,
+) -> Result<Sym, AddRefusal> {
+    assert!(rt; is_identifier(name));
+    assert!(rt; signature.symbol_count() < 100);
+    assert!(rt; signature.name_count() < 100);
+    signature.add_symbol(name, kind, arity)
+}
+
+/// The theory of a destructor without an argument, of `h` and of `e`, without a rule.
+fn theory(rt: &impl Abort, alloc: Global) -> Result<Theory, NoMemory> {
+    let mut signature = Signature::new(alloc);
+    assert!(rt; add(rt, &mut signature, "stuck", SymKind::Destructor, 0).is_ok());
+    assert!(rt; add(rt, &mut signature, "h", SymKind::Constructor, 1).is_ok());
+    assert!(rt; add(rt, &mut signature, "e", SymKind::Constructor, 2).is_ok());
+    Theory::without_rules(alloc, &signature)
+}
+
 /// Whether the answer is equality of the two recipes, or that the frames are equivalent where there are none.
 fn is_answer(answer: Result<Comparison, NoMemory>, recipes: &[Term]) -> bool {
     match answer {
@@ -48,6 +78,7 @@ fn is_answer(answer: Result<Comparison, NoMemory>, recipes: &[Term]) -> bool {
 #[test]
 fn frames(rt: HostRuntime) -> Result<(), Fail> {
     let alloc = rt.alloc();
+    let theory = theory(&rt, alloc)?;
     let table = [
         ("", "", ""),
         ("kk", "kn", "21"),
@@ -63,13 +94,53 @@ fn frames(rt: HostRuntime) -> Result<(), Fail> {
         ("knkne", "knnke", "312e"),
     ];
     for (one, other, recipes) in &table {
-        let first = terms(alloc, one.as_bytes())?;
-        let second = terms(alloc, other.as_bytes())?;
+        let first = frame(alloc, one)?;
+        let second = frame(alloc, other)?;
         let wanted = terms(alloc, recipes.as_bytes())?;
-        assert_eq!(rt; first.len(), second.len());
-        assert!(rt; first.len() < 100);
-        let answer = compare(alloc, &first, &second);
+        assert_eq!(rt; first.messages.len(), second.messages.len());
+        assert!(rt; first.messages.len() < 100);
+        let answer = compare(alloc, &theory, &first, &second);
         assert!(rt; is_answer(answer, &wanted), "{one} {other}");
+    }
+    Ok(())
+}
+
+/// Whether the recipe of the letters was found, or none where there are none.
+fn is_found(found: Result<Option<Term>, NoMemory>, recipe: &[Term]) -> bool {
+    match (found, recipe) {
+        (Ok(Some(found)), [wanted]) => found.equals(wanted),
+        (Ok(None), []) => true,
+        _ => false,
+    }
+}
+
+#[test]
+fn deductions(rt: HostRuntime) -> Result<(), Fail> {
+    let alloc = rt.alloc();
+    let theory = theory(&rt, alloc)?;
+    let table = [
+        ("", "a", "a"),
+        ("", "k", ""),
+        ("kn", "n", "2"),
+        ("kn", "knhe", "12he"),
+        ("kh", "k", ""),
+        ("ake", "ake", "1"),
+        ("ake", "@", "@"),
+    ];
+    for (messages, message, recipe) in &table {
+        let known = frame(alloc, messages)?;
+        let asked = terms(alloc, message.as_bytes())?;
+        let wanted = terms(alloc, recipe.as_bytes())?;
+        assert!(rt; known.messages.len() < 100);
+        for one in &asked {
+            let found = deduce(alloc, &theory, &known, one);
+            assert!(rt;
+                asked.len() > 1 || is_found(found, &wanted),
+                "{messages} {message}"
+            );
+        }
+        let pairs = saturate(alloc, &theory, &known)?.pairs;
+        assert_eq!(rt; pairs.len(), known.messages.len());
     }
     Ok(())
 }

@@ -4,7 +4,7 @@ use Rattle.dps_terms.specs.Seen.{seen}
 use Rattle.dps_terms.specs.Smaller.{argument_is_smaller}
 use Rattle.dps_terms.specs.Views.{arguments}
 use Rattle.dps_static.specs.Ways.{Builds}
-use Rattle.dps_static.proofs.Ways.{listed_further, given_further, all_taken, composes_app, argument_not_built}
+use Rattle.dps_static.proofs.Ways.{listed_further, given_further, all_taken, composes_app, argument_not_built, entry_builds, built_composed}
 use Rattle.dps_static.proofs.build.+build.Goals as goal
 
 pub composed-way-requires : goal.composed-way-requires
@@ -33,3 +33,11 @@ composed-returns-in_ok-term-in-App t c =
     rw c.in_ok-term-in-App.ensures
     (composes_app c.args.kept.now c.in-App.sym (seen c.args.tree) c.loop-i.arguments.items c.in-App.ensures c.loop-i.invariant.ways
     (all_taken (put_entries c.args.kept.now) c.loop-i.arguments.items (arguments (seen c.args.tree)) c.loop-i.i c.loop-i.invariant.give h))
+
+pub way-returns-in_ok-entry-in-Some : goal.way-returns-in_ok-entry-in-Some
+way-returns-in_ok-entry-in-Some t c =
+    entry_builds c.args.kept.now (seen c.args.tree) c.in_ok-entry-in-Some.entry c.in-Some.i c.in-Some.ensures.first c.in_ok-entry-in-Some.ensures
+
+pub way-returns-in_ok-found-in-None : goal.way-returns-in_ok-found-in-None
+way-returns-in_ok-found-in-None t c =
+    built_composed c.args.kept.now (seen c.args.tree) c.in_ok-found-in-None.found c.in-None.ensures.first c.in_ok-found-in-None.ensures

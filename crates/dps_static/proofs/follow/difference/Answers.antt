@@ -1,8 +1,8 @@
-use Rattle.std.proofs.Common.{◌≡◌, length, subst, arith}
+use Rattle.std.proofs.Common.{◌≡◌, length, ap, subst, arith}
 use Rattle.dps_static.proofs.Following.{PassBefore, follows}
 use Rattle.dps_static.proofs.follow.difference.Goals as goal
 
 pub returns : goal.returns
 returns c =
-    let e : c.loop-index.index ≡ length c.args.kept.now = omega arith in
+    let e : c.loop-index.index ≡ length c.args.kept.now = omega (arith, ap length c.trees-index-end.ensures) in
     follows c.args.kept.now c.args.counterparts.now c.requires (subst (PassBefore c.args.kept.now c.args.counterparts.now) e c.loop-index.invariant)

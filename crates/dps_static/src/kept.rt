@@ -1,0 +1,113 @@
+//! Lists of kept trees, in which the place of a tree is found without a walk.
+ghost use Rattle.std.specs.Prelude.{◌≡◌, ◌+◌, ◌<◌, ◌^◌, ◌++◌, ◌∷◌, [], ℕ, IfOk, IfSome, OnOk, OnErr, MatchOption, Some, slice_get};
+ghost use Rattle.dps_terms.specs.Seen.{seen};
+ghost use Rattle.dps_static.specs.Ways.{IsFirst, IsNotKept};
+ghost use Rattle.dps_static.specs.Places.{IsPlaced};
+
+use crate::digest::digest;
+use dps_terms::{NoMemory, Term, TermRef};
+use indexmap::IndexMap;
+use std::alloc::{AllocError, Global};
+use std::marker::Model;
+
+/// Kept trees, in order, with a place for the digest of each of them: no kept tree with this digest stands before it.
+#[derive(Drop)]
+pub(crate) struct Kept {
+    trees: Vec<Term>,
+    places: IndexMap<u64, usize>,
+}
+
+impl Model for Kept {
+    ghost use Rattle.std.specs.Prelude.{List};
+    ghost use Rattle.std.specs.Coded.{coded_list};
+    ghost use Rattle.dps_terms.specs.Tree.{Tree};
+    ghost use Rattle.dps_terms.specs.Stored.{tree_code};
+    ghost use Rattle.dps_static.specs.Places.{ArePlacesOf};
+
+    ghost Value = { List Tree };
+
+    ghost coded = { coded_list tree_code };
+
+    ghost view = { λ a. a.trees.items };
+
+    ghost invariant = { λ a. ArePlacesOf a.trees.items a.places.entries };
+}
+
+impl Kept {
+    /// No tree is kept.
+    pub(crate) fn empty(alloc: Global) -> Kept
+        ensures { result ≡ [] }
+    {
+        Kept {
+            trees: Vec::new(alloc),
+            places: IndexMap::new(alloc),
+        }
+    }
+
+    /// Keeps one more tree.
+    pub(crate) fn push(&mut self, tree: Term) -> Result<(), NoMemory>
+        ensures { OnOk result (self.new ≡ self.old ++ tree ∷ []) }
+    {
+        put_place(&mut self.places, digest(tree.whole()), self.trees.len())?;
+        self.trees.push(tree)?;
+        Ok(())
+    }
+
+    /// The kept trees.
+    pub(crate) fn trees(&self) -> &[Term]
+        ensures { result.now ≡ self.now }
+    {
+        self.trees.as_slice()
+    }
+
+    /// The first place, counted from 0, at which the tree is kept, and `None` exactly where it is not kept.
+    pub(crate) fn place(&self, tree: TermRef<'_>) -> Option<usize>
+        ensures first { MatchOption result (IsNotKept self.now (seen tree.entry)) (IsFirst self.now (seen tree.entry)) }
+        ensures small { IfSome result (λ place. place + 1 < 2 ^ 64) }
+    {
+        match self.places.get(&digest(tree)) {
+            Some(start) => place_from(&self.trees, *start, tree),
+            None => None,
+        }
+    }
+}
+
+/// Puts a place for the digest where none is.
+fn put_place(places: &mut IndexMap<u64, usize>, digest: u64, place: usize) -> Result<(), NoMemory>
+    ensures ok { OnOk result (IsPlaced places.old.entries digest place places.new.entries) }
+    ensures err { OnErr result (places.new.entries ≡ places.old.entries) }
+{
+    match places.get(&digest) {
+        Some(_) => Ok(()),
+        None => {
+            places.insert(digest, place)?;
+            Ok(())
+        }
+    }
+}
+
+/// The first place of the tree from a place on, before which it does not stand.
+fn place_from(trees: &[Term], start: usize, tree: TermRef<'_>) -> Option<usize>
+    requires { (k : ℕ) → k < start → ¬ (slice_get trees.now k ≡ Some (seen tree)) }
+    ensures first { MatchOption result (IsNotKept trees.now (seen tree.entry)) (IsFirst trees.now (seen tree.entry)) }
+    ensures small { IfSome result (λ place. place + 1 < 2 ^ 64) }
+{
+    for place in start..trees.len() {
+        if trees[place].whole().equals(tree) {
+            return Some(place);
+        }
+    }
+    None
+}
+
+/// The trees as kept ones.
+pub(crate) fn kept_of(alloc: Global, trees: &[Term]) -> Result<Kept, NoMemory>
+    ensures { IfOk result (λ kept. kept ≡ trees.now) }
+{
+    let mut kept = Kept::empty(alloc);
+    for tree in trees {
+        let copy = tree.copy(alloc)?;
+        kept.push(copy)?;
+    }
+    Ok(kept)
+}
