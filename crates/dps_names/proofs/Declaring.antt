@@ -1,15 +1,15 @@
 -- Declarations, one by one.
-use Rattle.std.proofs.Common.{◌≡◌, ℕ, ◌+◌, ◌<◌, Bool, true, false, ◌||◌, if◌then◌else◌, List, [], ◌∷◌, ◌++◌, Option, Some, None, Result, Ok, Err, refl, sym, ap, ◌∙◌, length, get_or, drop, arith, subst}
+use Rattle.std.proofs.Common.{◌≡◌, ℕ, ◌+◌, ◌<◌, Bool, true, false, ◌||◌, if◌then◌else◌, List, [], ◌∷◌, ◌++◌, Option, Some, None, Result, Ok, Err, refl, sym, ap, ◌∙◌, length, get_or, drop, subst}
 use Rattle.std.specs.Prelude.{position}
 use Rattle.std.specs.Str.{bytes_eq}
 use Rattle.std.proofs.Math.Seq.{drop-length}
 use Rattle.dps_lex.specs.declared.vocabulary.TokenKind.TheVariants as kinds
 use Rattle.dps_terms.specs.Signature.{Signature}
-use Rattle.dps_terms.specs.Names.{IsIdentifier, symbol_named, name_named, with_name}
+use Rattle.dps_terms.specs.Names.{IsIdentifier, symbol_named, name_named}
 use Rattle.dps_syntax.specs.declared.tree.Decl.{Decl}
 use Rattle.dps_syntax.specs.declared.tree.Part.{Part}
 use Rattle.dps_syntax.specs.declared.tree.Part.TheVariants.{Token, Inner}
-use Rattle.dps_syntax.specs.Tree.{Lexeme, Derivation, Parts, none, token, inner}
+use Rattle.dps_syntax.specs.Tree.{Lexeme, Derivation, Parts, token}
 use Rattle.dps_syntax.specs.Parts.{parts_of}
 use Rattle.dps_names.specs.declared.fault.NameCause.TheVariants.{NameTwice}
 use Rattle.dps_names.specs.declared.fault.NameFault.{NameFault}
@@ -24,7 +24,7 @@ use Rattle.dps_names.specs.Program.{Program, Definition, WrittenRule, Body, para
 use Rattle.dps_names.specs.Scopes.{Locals, is_reserved, begins_as_projection, declared_meaning, function_or_named, named, defined}
 use Rattle.dps_names.specs.Terms.{is_kind}
 use Rattle.dps_names.specs.Processes.{is_among, joined, parallels}
-use Rattle.dps_names.specs.Declarations.{Known, with_signature, declaring, declare_names, is_marked_private, with_constructor, functions, in_signature, rule_in, rules, parameters, body_of, earlier, first_lexeme, declaration, declarations}
+use Rattle.dps_names.specs.Declarations.{declaring, declare_names, is_marked_private, functions, in_signature, rule_in, rules, parameters, body_of, earlier, first_lexeme, declaration, declarations}
 use Rattle.dps_names.specs.Answers.{IsRefused}
 use Rattle.dps_names.specs.DeclarationShapes.{one_name, one_function, one_parameter, IsFunction, IsNoFunction, AreParameters}
 use Rattle.dps_names.proofs.Rows.{drop_next, at_token, at_inner, at_end}

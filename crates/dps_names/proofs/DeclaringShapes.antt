@@ -1,8 +1,8 @@
 -- Parts that have no shape of a declaration say nothing.
-use Rattle.std.proofs.Common.{◌≡◌, [], refl, sym, ap, ◌∙◌, subst}
+use Rattle.std.proofs.Common.{◌≡◌, refl, sym, ap, ◌∙◌, subst}
 use Rattle.dps_syntax.specs.declared.grammar.Production.{Production}
 use Rattle.dps_syntax.specs.Tree.{Lexeme, Parts, none, token, inner}
-use Rattle.dps_names.specs.Declarations.{names, functions, define, query}
+use Rattle.dps_names.specs.Declarations.{names, define, query}
 use Rattle.dps_names.specs.Shapes.{HasNoToken, HasNoInner, IsLed}
 use Rattle.dps_names.specs.DeclarationShapes.{AreNames, AreNoNames, IsFunction, IsNoFunction, IsDefinition, IsNoDefinition, HasBody, HasNoBody, IsQuery, IsNoQuery}
 

@@ -1,6 +1,7 @@
 pub mod Places
 pub mod Numbers
 pub mod Signatures
+pub mod Growing
 pub mod Rows
 pub mod Identifiers
 pub mod Members
@@ -11,3 +12,18 @@ pub mod Shaping
 pub mod Processing
 pub mod Declaring
 pub mod DeclaringShapes
+pub mod Tupling
+pub mod Standing
+pub mod Lasting
+pub mod Giving
+pub mod FormedTerms
+pub mod FormedPatterns
+pub mod FormedProcesses
+pub mod FormedPrograms
+pub mod Outcomes
+pub mod RuleTerms
+pub mod RuleSides
+pub mod RuleDeclarations
+pub mod RulesChecked
+pub mod Noting
+pub mod Ranking

@@ -1,5 +1,5 @@
 -- The members of a tuple pattern, taken one by one.
-use Rattle.std.proofs.Common.{◌≡◌, ◌≤◌, ◌<◌, ℕ, ◌+◌, List, refl, sym, ap, ◌∙◌, length, get_or, drop, arith, subst}
+use Rattle.std.proofs.Common.{◌≡◌, ◌<◌, ℕ, ◌+◌, List, refl, ap, ◌∙◌, length, get_or, drop, arith, subst}
 use Rattle.dps_terms.specs.Signature.{Signature}
 use Rattle.dps_syntax.specs.declared.tree.Part.{Part}
 use Rattle.dps_syntax.specs.declared.tree.Part.TheVariants.{Token, Inner}
@@ -7,7 +7,7 @@ use Rattle.dps_syntax.specs.Tree.{Lexeme, Derivation, Parts, none, token, inner}
 use Rattle.dps_syntax.specs.Parts.{parts_of}
 use Rattle.dps_names.specs.declared.fault.NameFault.{NameFault}
 use Rattle.dps_names.specs.declared.body.Step.TheVariants.{Project}
-use Rattle.dps_names.specs.Outcome.{Outcome, done, faulty, and_then}
+use Rattle.dps_names.specs.Outcome.{done, faulty, and_then}
 use Rattle.dps_names.specs.Program.{Definition}
 use Rattle.dps_names.specs.Scopes.{Locals}
 use Rattle.dps_names.specs.Terms.{count_inner}

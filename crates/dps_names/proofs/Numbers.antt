@@ -1,5 +1,5 @@
 -- The value of a number, up to a greatest one.
-use Rattle.std.proofs.Common.{◌≡◌, ◌≤◌, ◌<◌, ℕ, ◌+◌, ◌-◌, ◌*◌, ◌^◌, min, List, [], ◌∷◌, refl, sym, ap, ◌∙◌, length, get_or, drop, add-one, arith}
+use Rattle.std.proofs.Common.{◌≡◌, ◌≤◌, ◌<◌, ℕ, ◌+◌, ◌-◌, ◌*◌, ◌^◌, min, List, [], ◌∷◌, refl, sym, ap, ◌∙◌, length, get_or, drop, arith}
 use Rattle.std.proofs.Math.Seq.{drop-length}
 use Rattle.dps_names.specs.Processes.{value_behind}
 use Rattle.dps_names.proofs.Rows.{drop_next}

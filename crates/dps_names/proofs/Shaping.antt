@@ -1,5 +1,5 @@
 -- Parts that have no shape of a process say nothing.
-use Rattle.std.proofs.Common.{◌≡◌, ◌<◌, ◌+◌, refl, sym, ap, ◌∙◌, subst}
+use Rattle.std.proofs.Common.{◌≡◌, refl, sym, ap, ◌∙◌, subst}
 use Rattle.dps_syntax.specs.declared.grammar.Production.{Production}
 use Rattle.dps_syntax.specs.Tree.{Lexeme, Parts, none, token, inner}
 use Rattle.dps_names.specs.Shapes.{HasNoToken, HasNoInner, IsLed, IsEnded, IsContinued, IsNotPrefixed, IsPrefixed, IsNoExchange, IsExchange, IsNoComparison, IsComparison}

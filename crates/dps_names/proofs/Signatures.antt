@@ -1,63 +1,10 @@
 -- What a signature's names and symbols come to, one by one.
-use Rattle.std.proofs.Common.{◌≡◌, ◌≤◌, ◌<◌, ℕ, zero, suc, ◌+◌, ◌-◌, Bool, true, false, min, List, [], ◌∷◌, ◌++◌, Option, Some, None, refl, sym, ap, ◌∙◌, length, take, drop, add-one, arith, append_assoc, if◌then◌else◌}
+use Rattle.std.proofs.Common.{◌≡◌, ◌≤◌, ℕ, zero, suc, ◌+◌, ◌-◌, List, [], ◌∷◌, ◌++◌, refl, sym, ap, ◌∙◌, arith, append_assoc}
 use Rattle.std.proofs.lemmas.List.{append-nil}
-use Rattle.std.specs.Prelude.{slice_get}
-use Rattle.std.specs.Option.{option_map}
-use Rattle.dps_terms.specs.Signature.{Symbol, Name, Signature}
+use Rattle.dps_terms.specs.Signature.{Symbol, Signature}
 use Rattle.dps_terms.specs.Names.{with_symbol}
 use Rattle.dps_terms.specs.declared.SymKind.TheVariants.{Destructor}
-use Rattle.dps_names.specs.Scopes.{privates_in, projections_from, projection_name}
-
-abbrev pub one_if : Bool → ℕ
-one_if true = 1
-one_if false = 0
-
-privates_in-suc : (xs : List Name) (i : ℕ) (b : Bool) → option_map (λ (n : Name). n.is_private) (slice_get xs i) ≡ Some b → privates_in (take (suc i) xs) ≡ privates_in (take i xs) + one_if b
-privates_in-suc [] i b e = cc
-privates_in-suc (x ∷ xs) zero b e = head x.is_private b cc
-  where
-    head : (a b : Bool) → a ≡ b → (if a then 1 else 0) + 0 ≡ 0 + one_if b
-    head true true e = refl
-    head false false e = refl
-    head true false e = cc
-    head false true e = cc
-privates_in-suc (x ∷ xs) (suc i) b e = omega (arith, privates_in-suc xs i b e)
-
--- What the loop keeps: the private names among the first ones.
-pub record CountsPrivates (names : List Name) (i n : ℕ) : Type 0 where
-  pub counted : n ≡ privates_in (take i names)
-  pub within : n ≤ i
-
-pub privates_first : (names : List Name) → CountsPrivates names 0 0
-privates_first names = record { counted = refl; within = omega arith }
-
-pub privates_private : (names : List Name) (i n : ℕ) (b : Bool) → CountsPrivates names i n → option_map (λ (n : Name). n.is_private) (slice_get names i) ≡ Some b → b ≡ true → CountsPrivates names (i + 1) (n + 1)
-privates_private names i n b c e t =
-    let more : privates_in (take (i + 1) names) ≡ privates_in (take i names) + one_if true = rw add-one (privates_in-suc names i true (e ∙ ap (λ x. Some x) t)) in
-    record { counted = omega (arith, more, c.counted); within = omega (arith, c.within) }
-
-pub privates_public : (names : List Name) (i n : ℕ) (b : Bool) → CountsPrivates names i n → option_map (λ (n : Name). n.is_private) (slice_get names i) ≡ Some b → b ≡ false → CountsPrivates names (i + 1) n
-privates_public names i n b c e t =
-    let more : privates_in (take (i + 1) names) ≡ privates_in (take i names) + one_if false = rw add-one (privates_in-suc names i false (e ∙ ap (λ x. Some x) t)) in
-    record { counted = omega (arith, more, c.counted); within = omega (arith, c.within) }
-
-pub privates_last : (names : List Name) (i n number : ℕ) → CountsPrivates names i n → i ≡ min number (length names) → n ≡ privates_in (take number names)
-privates_last names i n number c e = c.counted ∙ ap privates_in (ap (λ k. take k names) e ∙ taken number names)
-  where
-    taken_nil : (k : ℕ) → take {A = Name} k [] ≡ []
-    taken_nil zero = refl
-    taken_nil (suc k) = refl
-
-    taken : (k : ℕ) (xs : List Name) → take (min k (length xs)) xs ≡ take k xs
-    taken k [] = taken_nil (min k 0) ∙ sym (taken_nil k)
-    taken zero (x ∷ xs) =
-        let none : min zero (length (x ∷ xs)) ≡ zero = omega arith in
-        ap (λ j. take j (x ∷ xs)) none
-    taken (suc k) (x ∷ xs) =
-        let down : min (suc k) (length (x ∷ xs)) ≡ suc (min k (length xs)) = omega arith in
-        ap (λ j. take j (x ∷ xs)) down ∙ ap (λ ys. x ∷ ys) (taken k xs)
-
-pub ruleset for_privates = (privates_first, privates_private, privates_public, privates_last)
+use Rattle.dps_names.specs.Scopes.{projections_from, projection_name}
 
 -- one projection
 abbrev pub projection_symbol : ℕ → ℕ → Symbol

@@ -9,7 +9,9 @@ pub mod StoredBody
 pub mod StoredProgram
 pub mod Faults
 pub mod Outcome
+pub mod Places
 pub mod Scopes
+pub mod Ranks
 pub mod Blocks
 pub mod Terms
 pub mod Rules
@@ -20,3 +22,5 @@ pub mod Declarations
 pub mod Shapes
 pub mod DeclarationShapes
 pub mod Answers
+pub mod WellFormed
+pub mod Laws

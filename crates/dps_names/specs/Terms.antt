@@ -13,7 +13,6 @@ use Rattle.dps_names.specs.declared.fault.NameCause.TheVariants.{UnknownName, Wr
 use Rattle.dps_names.specs.declared.written.Use.{Use}
 use Rattle.dps_names.specs.declared.written.Use.TheVariants.{PrivateName, Local}
 use Rattle.dps_names.specs.Program.{Written, Definition}
-use Rattle.dps_names.specs.declared.meaning.Projection.{Projection}
 use Rattle.dps_names.specs.declared.meaning.Meaning.{Meaning}
 use Rattle.dps_names.specs.declared.meaning.Meaning.TheVariants.{Local as a_local, Name as a_name, Function as a_function, Process as a_process, Projection as a_projection, Unknown as unknown}
 use Rattle.dps_names.specs.Faults.{place_of}
@@ -71,9 +70,10 @@ identifier_as lexeme count arguments signature (a_projection projection) =
     function_of lexeme (count == 1) (arguments tuple.signature) (record { number = tuple.symbol + projection.index })
 identifier_as lexeme count arguments signature unknown = fault_at UnknownName lexeme
 
--- Brackets round one term are nothing, and round several they are a tuple.
+-- Brackets round one term are nothing, and round several they are a tuple. What no text writes is the first private name,
+-- since a private name may stand in any scope.
 abbrev pub the_first : List Written → Written
-the_first [] = written (var 0) []
+the_first [] = written (private 0) []
 the_first (w ∷ ws) = w
 
 abbrev pub tuple_of : ℕ → (Signature → Outcome Signature (List Written)) → Signature → Lexeme → Outcome Signature Written
@@ -88,7 +88,7 @@ module _ (definitions : List Definition) (scope : Locals) where
   abbrev mutual
     -- Term = id [ "(" [ Term { "," Term } ] ")" ] | "(" Term { "," Term } ")"
     pub term : Parts → Signature → Outcome Signature Written
-    term none signature = done (written (var 0) []) signature
+    term none signature = done (written (private 0) []) signature
     term (inner p inside parts) signature = term inside signature
     term (token lexeme parts) signature =
         if is_kind kinds.Identifier lexeme

@@ -19,20 +19,20 @@ use crate::process::{joined_in_parallel, parallels};
 use crate::rule::read_rule;
 use crate::scope::Scope;
 use crate::shape::{begun, led};
-use crate::signature::{add_name, add_symbol};
+use crate::signature::{Ranked, add_name, add_symbol};
 use crate::term::MOST_ARGUMENTS;
 use crate::texts::Texts;
 use crate::{Body, NameCause, NameRefusal, Program, Side, WrittenRule};
 use dps_lex::{Place, TokenKind};
 use dps_syntax::{Decl, File, Leaf, Part};
-use dps_terms::{NoMemory, Signature, SymKind};
+use dps_terms::{NoMemory, SymKind};
 use std::alloc::{AllocError, Global};
 use std::marker::Model;
 
 /// What the declarations so far say.
 #[derive(Drop)]
 struct Draft {
-    signature: Signature,
+    signature: Ranked,
     rules: Vec<WrittenRule>,
     definitions: Definitions,
     left: Side,
@@ -56,7 +56,7 @@ impl Draft {
         ensures { result ≡ empty }
     {
         Draft {
-            signature: Signature::new(alloc),
+            signature: Ranked::new(alloc),
             rules: Vec::new(alloc),
             definitions: Definitions::new(alloc),
             left: no_side(),
@@ -76,7 +76,7 @@ impl Draft {
             right,
         } = self;
         Ok(Program {
-            signature,
+            signature: signature.into_signature(),
             rules,
             definitions: definitions.into_list(alloc)?,
             left,

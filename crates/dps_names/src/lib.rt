@@ -8,6 +8,7 @@ mod body;
 mod declaration;
 mod definitions;
 mod fault;
+pub mod laws;
 mod meaning;
 mod parts;
 mod pattern;

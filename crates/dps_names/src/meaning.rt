@@ -5,7 +5,8 @@ ghost use Rattle.dps_names.specs.Blocks.{blocks};
 
 use crate::definitions::Definitions;
 use crate::scope::Scope;
-use dps_terms::{NoMemory, Signature, Sym, is_identifier};
+use crate::signature::Ranked;
+use dps_terms::{NoMemory, Sym, is_identifier};
 
 /// `proj_i_n`: the i-th member of a tuple of length n.
 #[derive(Clone, Copy, Debug, PartialEq, Eq)]
@@ -86,22 +87,19 @@ fn are_projection_digits(index: u8, length: u8) -> bool
 }
 
 /// What the declarations so far say of a text. Names, functions and processes share one table.
-pub(crate) fn declared_meaning(
-    definitions: &Definitions,
-    signature: &Signature,
-    text: &str,
-) -> Meaning
+pub(crate) fn declared_meaning(definitions: &Definitions, signature: &Ranked, text: &str) -> Meaning
     ensures length { HasLength result }
     ensures found { result ≡ declared_meaning signature.now definitions.now text.now }
 {
     if begins_as_projection(text.as_bytes()) {
         return Meaning::Unknown;
     }
-    if let Some(sym) = signature.symbol(text) {
-        return Meaning::Function(sym, signature.arity(sym));
+    let declared = signature.signature();
+    if let Some(sym) = declared.symbol(text) {
+        return Meaning::Function(sym, declared.arity(sym));
     }
-    if let Some(number) = signature.name(text) {
-        return Meaning::Name(number, signature.is_private(number));
+    if let Some(number) = declared.name(text) {
+        return Meaning::Name(number, declared.is_private(number));
     }
     match definitions.find(text) {
         Some(number) => Meaning::Process(number, definitions.parameters(number)),
@@ -113,7 +111,7 @@ pub(crate) fn declared_meaning(
 pub(crate) fn meaning_of(
     definitions: &Definitions,
     scope: &Scope<'_>,
-    signature: &Signature,
+    signature: &Ranked,
     text: &str,
 ) -> Result<Meaning, NoMemory>
     ensures length { IfOk result HasLength }

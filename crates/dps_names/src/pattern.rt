@@ -11,13 +11,13 @@ use crate::definitions::Definitions;
 use crate::fault::fault_at;
 use crate::parts::{count_inner, is_kind};
 use crate::scope::{Scope, sum};
-use crate::signature::{projection_symbol, tuple_symbol};
+use crate::signature::{Ranked, projection_symbol, tuple_symbol};
 use crate::term::{MOST_ARGUMENTS, term};
 use crate::texts::Texts;
 use crate::{NameCause, NameRefusal, Step};
 use dps_lex::TokenKind;
 use dps_syntax::{Leaf, Part};
-use dps_terms::{NoMemory, Signature, Sym};
+use dps_terms::{NoMemory, Sym};
 use std::alloc::{AllocError, Global};
 use std::marker::Model;
 
@@ -78,7 +78,7 @@ pub(crate) fn pattern_in(
     definitions: &Definitions,
     scope: &Scope<'_>,
     parts: &[Part],
-    signature: &mut Signature,
+    signature: &mut Ranked,
 ) -> Result<Pattern, NameRefusal>
     ensures { Answers (λ p. p) signature.new result (pattern_in definitions.now (blocks scope.now) (parts_of parts.now) signature.old) }
 {
@@ -95,7 +95,7 @@ fn read_pattern(
     outside: &Scope<'_>,
     parts: &[Part],
     so_far: &mut Pattern,
-    signature: &mut Signature,
+    signature: &mut Ranked,
 ) -> Result<(), NameRefusal>
     ensures { Answers (λ _. so_far.new) signature.new result (pattern definitions.now (blocks outside.now) (parts_of parts.now) so_far.old signature.old) }
 {
@@ -131,7 +131,7 @@ fn tested(
     outside: &Scope<'_>,
     parts: &[Part],
     so_far: &mut Pattern,
-    signature: &mut Signature,
+    signature: &mut Ranked,
 ) -> Result<(), NameRefusal>
     ensures { Answers (λ _. so_far.new) signature.new result (tested definitions.now (blocks outside.now) (parts_of parts.now) so_far.old signature.old) }
 {
@@ -150,7 +150,7 @@ fn tuple(
     leaf: &Leaf,
     parts: &[Part],
     so_far: &mut Pattern,
-    signature: &mut Signature,
+    signature: &mut Ranked,
 ) -> Result<(), NameRefusal>
     ensures { Answers (λ _. so_far.new) signature.new result (tuple_pattern leaf.now (count_inner (parts_of parts.now)) (λ symbol after. members definitions.now (blocks outside.now) (parts_of parts.now) symbol (next_local (blocks outside.now) so_far.old) 1 (unnamed so_far.old) after) signature.old) }
 {
@@ -184,7 +184,7 @@ fn members(
     symbol: Sym,
     from: usize,
     so_far: &mut Pattern,
-    signature: &mut Signature,
+    signature: &mut Ranked,
 ) -> Result<(), NameRefusal>
     requires { count_inner (parts_of parts.now) ≤ 8 }
     ensures { Answers (λ _. so_far.new) signature.new result (members definitions.now (blocks outside.now) (parts_of parts.now) symbol.number from 1 so_far.old signature.old) }

@@ -15,10 +15,11 @@ use crate::parts::{count_inner, number_of};
 use crate::pattern::pattern_in;
 use crate::scope::Scope;
 use crate::shape::{Start, begun, comparison, continuation, exchange, group, prefix, start_of};
+use crate::signature::Ranked;
 use crate::term::{identifier, term, terms};
 use crate::{Body, Channel, NameCause, NameRefusal};
 use dps_syntax::{Leaf, Part};
-use dps_terms::{NoMemory, Signature};
+use dps_terms::NoMemory;
 use std::alloc::{AllocError, Global};
 
 /// The greatest number of copies.
@@ -58,7 +59,7 @@ pub(crate) fn parallels(
     definitions: &Definitions,
     scope: &Scope<'_>,
     parts: &[Part],
-    signature: &mut Signature,
+    signature: &mut Ranked,
 ) -> Result<Vec<Body>, NameRefusal>
     ensures { Answers (λ v. v.items) signature.new result (parallels definitions.now (blocks scope.now) (parts_of parts.now) signature.old) }
 {
@@ -81,7 +82,7 @@ fn choices(
     definitions: &Definitions,
     scope: &Scope<'_>,
     parts: &[Part],
-    signature: &mut Signature,
+    signature: &mut Ranked,
 ) -> Result<Vec<Body>, NameRefusal>
     ensures { Answers (λ v. v.items) signature.new result (choices definitions.now (blocks scope.now) (parts_of parts.now) signature.old) }
 {
@@ -104,7 +105,7 @@ fn process(
     definitions: &Definitions,
     scope: &Scope<'_>,
     parts: &[Part],
-    signature: &mut Signature,
+    signature: &mut Ranked,
 ) -> Result<Body, NameRefusal>
     ensures { Answers (λ b. b) signature.new result (process definitions.now (blocks scope.now) (parts_of parts.now) signature.old) }
 {
@@ -131,7 +132,7 @@ fn called(
     scope: &Scope<'_>,
     leaf: &Leaf,
     arguments: &[Part],
-    signature: &mut Signature,
+    signature: &mut Ranked,
 ) -> Result<Body, NameRefusal>
     ensures { Answers (λ b. b) signature.new result (call_as leaf.now (count_inner (parts_of arguments.now)) (terms definitions.now (blocks scope.now) (parts_of arguments.now) signature.old) (meaning signature.old definitions.now (blocks scope.now) leaf.now.text)) }
 {
@@ -159,7 +160,7 @@ fn grouped(
     definitions: &Definitions,
     scope: &Scope<'_>,
     parts: &[Part],
-    signature: &mut Signature,
+    signature: &mut Ranked,
 ) -> Result<Body, NameRefusal>
     ensures { Answers (λ b. b) signature.new result (grouped definitions.now (blocks scope.now) (parts_of parts.now) signature.old) }
 {
@@ -180,7 +181,7 @@ fn repeated(
     definitions: &Definitions,
     scope: &Scope<'_>,
     parts: &[Part],
-    signature: &mut Signature,
+    signature: &mut Ranked,
 ) -> Result<Body, NameRefusal>
     ensures { Answers (λ b. b) signature.new result (repeated definitions.now (blocks scope.now) (parts_of parts.now) signature.old) }
 {
@@ -217,7 +218,7 @@ fn restricted(
     definitions: &Definitions,
     scope: &Scope<'_>,
     parts: &[Part],
-    signature: &mut Signature,
+    signature: &mut Ranked,
 ) -> Result<Body, NameRefusal>
     ensures { Answers (λ b. b) signature.new result (restricted definitions.now (blocks scope.now) (parts_of parts.now) signature.old) }
 {
@@ -237,7 +238,7 @@ fn channel(
     definitions: &Definitions,
     scope: &Scope<'_>,
     leaf: &Leaf,
-    signature: &mut Signature,
+    signature: &mut Ranked,
 ) -> Result<Channel, NameRefusal>
     ensures { Answers (λ c. c) signature.new result (channel definitions.now (blocks scope.now) leaf.now signature.old) }
 {
@@ -256,7 +257,7 @@ fn received(
     definitions: &Definitions,
     scope: &Scope<'_>,
     parts: &[Part],
-    signature: &mut Signature,
+    signature: &mut Ranked,
 ) -> Result<Body, NameRefusal>
     ensures { Answers (λ b. b) signature.new result (received definitions.now (blocks scope.now) (parts_of parts.now) signature.old) }
 {
@@ -280,7 +281,7 @@ fn sent(
     definitions: &Definitions,
     scope: &Scope<'_>,
     parts: &[Part],
-    signature: &mut Signature,
+    signature: &mut Ranked,
 ) -> Result<Body, NameRefusal>
     ensures { Answers (λ b. b) signature.new result (sent definitions.now (blocks scope.now) (parts_of parts.now) signature.old) }
 {
@@ -303,7 +304,7 @@ fn compared(
     definitions: &Definitions,
     scope: &Scope<'_>,
     parts: &[Part],
-    signature: &mut Signature,
+    signature: &mut Ranked,
 ) -> Result<Body, NameRefusal>
     ensures { Answers (λ b. b) signature.new result (compared definitions.now (blocks scope.now) (parts_of parts.now) signature.old) }
 {
@@ -327,7 +328,7 @@ fn matched(
     definitions: &Definitions,
     scope: &Scope<'_>,
     parts: &[Part],
-    signature: &mut Signature,
+    signature: &mut Ranked,
 ) -> Result<Body, NameRefusal>
     ensures { Answers (λ b. b) signature.new result (matched definitions.now (blocks scope.now) (parts_of parts.now) signature.old) }
 {
@@ -352,7 +353,7 @@ fn continued(
     definitions: &Definitions,
     scope: &Scope<'_>,
     parts: &[Part],
-    signature: &mut Signature,
+    signature: &mut Ranked,
 ) -> Result<Body, NameRefusal>
     ensures { Answers (λ b. b) signature.new result (continued definitions.now (blocks scope.now) (parts_of parts.now) signature.old) }
 {

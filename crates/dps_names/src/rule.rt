@@ -12,13 +12,13 @@ use crate::definitions::Definitions;
 use crate::fault::{fault_at, place_of};
 use crate::meaning::{Meaning, declared_meaning, is_reserved};
 use crate::parts::{count_inner, has_more, is_kind};
-use crate::signature::{add_symbol, tuple_symbol};
+use crate::signature::{Ranked, add_symbol, tuple_symbol};
 use crate::term::MOST_ARGUMENTS;
 use crate::texts::Texts;
 use crate::{NameCause, NameRefusal, WrittenRule};
 use dps_lex::TokenKind;
 use dps_syntax::{Leaf, Part};
-use dps_terms::{NoMemory, PublicName, Signature, Sym, SymKind, Term};
+use dps_terms::{NoMemory, PublicName, Sym, SymKind, Term};
 use dps_theory::Rule;
 use std::alloc::{AllocError, Global};
 
@@ -43,7 +43,7 @@ fn rule_term(
     alloc: Global,
     definitions: &Definitions,
     parts: &[Part],
-    signature: &mut Signature,
+    signature: &mut Ranked,
     variables: &mut Texts,
 ) -> Result<Term, NameRefusal>
     ensures { Answers (λ t. t) (record { signature = signature.new; variables = variables.new }) result (rule_term definitions.now (parts_of parts.now) (record { signature = signature.old; variables = variables.old })) }
@@ -74,7 +74,7 @@ fn identified(
     definitions: &Definitions,
     leaf: &Leaf,
     arguments: &[Part],
-    signature: &mut Signature,
+    signature: &mut Ranked,
     variables: &mut Texts,
 ) -> Result<Term, NameRefusal>
     ensures { Answers (λ t. t) (record { signature = signature.new; variables = variables.new }) result (identifier_in_rule leaf.now (has_more (parts_of arguments.now)) (count_inner (parts_of arguments.now)) (rule_terms definitions.now (parts_of arguments.now)) (record { signature = signature.old; variables = variables.old }) (declared_meaning signature.old definitions.now leaf.now.text)) }
@@ -114,7 +114,7 @@ fn bracketed(
     definitions: &Definitions,
     leaf: &Leaf,
     members: &[Part],
-    signature: &mut Signature,
+    signature: &mut Ranked,
     variables: &mut Texts,
 ) -> Result<Term, NameRefusal>
     ensures { Answers (λ t. t) (record { signature = signature.new; variables = variables.new }) result (tuple_in_rule (count_inner (parts_of members.now)) (rule_terms definitions.now (parts_of members.now)) (record { signature = signature.old; variables = variables.old }) leaf.now) }
@@ -149,7 +149,7 @@ fn rule_terms(
     alloc: Global,
     definitions: &Definitions,
     parts: &[Part],
-    signature: &mut Signature,
+    signature: &mut Ranked,
     variables: &mut Texts,
 ) -> Result<Vec<Term>, NameRefusal>
     ensures count { IfOk result (λ v. vec_len v ≡ count_inner (parts_of parts.now)) }
@@ -172,7 +172,7 @@ fn root(
     definitions: &Definitions,
     leaf: &Leaf,
     count: usize,
-    signature: &mut Signature,
+    signature: &mut Ranked,
 ) -> Result<Sym, NameRefusal>
     ensures few { IfOk result (λ _. count ≤ 8) }
     ensures found { Answers (λ f. f) signature.new result (root_as definitions.now leaf.now count signature.old (declared_meaning signature.old definitions.now leaf.now.text)) }
@@ -199,7 +199,7 @@ fn declared_root(
     definitions: &Definitions,
     leaf: &Leaf,
     count: usize,
-    signature: &mut Signature,
+    signature: &mut Ranked,
 ) -> Result<Sym, NameRefusal>
     ensures few { IfOk result (λ _. count ≤ 8) }
     ensures found { Answers (λ f. f) signature.new result (declared_root leaf.now count signature.old) }
@@ -220,7 +220,7 @@ pub(crate) fn read_rule(
     alloc: Global,
     definitions: &Definitions,
     parts: &[Part],
-    signature: &mut Signature,
+    signature: &mut Ranked,
 ) -> Result<Option<WrittenRule>, NameRefusal>
     ensures { Answers option_to_list signature.new result (rule definitions.now (parts_of parts.now) signature.old) }
 {

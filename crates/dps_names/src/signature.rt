@@ -1,18 +1,77 @@
-//! What is added to the signature.
-ghost use Rattle.std.specs.Prelude.{◌≡◌, ◌≤◌, ◌<◌, ◌^◌, ◌+◌, ◌++◌, length, string_bytes, IfOk, IfErr, OnOk};
+//! The signature that grows, and what is added to it.
+ghost use Rattle.std.specs.Prelude.{◌≡◌, ◌≤◌, ◌<◌, ◌^◌, ◌+◌, ◌++◌, [], length, string_bytes, IsTrue, IfOk, IfErr, OnOk};
 ghost use Rattle.dps_terms.specs.Names.{IsIdentifier, IsSymbolText, with_symbol, with_name, tuple_name};
 ghost use Rattle.dps_names.specs.Scopes.{projection_name, projections_from, with_tuple, private_number};
 
 use crate::NameRefusal;
 use dps_terms::{NoMemory, Signature, Sym, SymKind};
 use std::alloc::{AllocError, Global};
+use std::marker::Model;
 
 /// A signature has fewer symbols and names than 2^24, each. (A file has at most 2^20 tokens, so it declares fewer.)
 const MOST: u32 = 1 << 24;
 
+/// A signature, with the rank of each name: how many private names stand before it.
+#[derive(Drop)]
+pub(crate) struct Ranked {
+    signature: Signature,
+    ranks: Vec<u64>,
+    /// How many names are private.
+    privates: u64,
+}
+
+impl Model for Ranked {
+    ghost use Rattle.dps_terms.specs.Signature.{Signature};
+    ghost use Rattle.dps_names.specs.StoredProgram.{signature_code};
+    ghost use Rattle.dps_names.specs.Ranks.{AreRanked};
+
+    ghost Value = { Signature };
+
+    ghost coded = { signature_code };
+
+    ghost view = { λ a. a.signature };
+
+    ghost invariant = { λ a. AreRanked a.signature.names a.ranks.items a.privates };
+}
+
+impl Ranked {
+    /// Nothing is declared. It takes no memory.
+    pub(crate) fn new(alloc: Global) -> Ranked
+        ensures { result ≡ record { symbols = []; names = [] } }
+    {
+        Ranked {
+            signature: Signature::new(alloc),
+            ranks: Vec::new(alloc),
+            privates: 0,
+        }
+    }
+
+    /// The signature.
+    pub(crate) fn signature(&self) -> &Signature
+        ensures { result.now ≡ self.now }
+    {
+        &self.signature
+    }
+
+    /// The signature alone.
+    pub(crate) fn into_signature(self) -> Signature
+        ensures { result ≡ self }
+    {
+        self.signature
+    }
+
+    /// Whether one more symbol and one more name may be added.
+    fn has_room(&self) -> bool
+        ensures symbols { IsTrue result → length self.now.symbols < 2 ^ 24 }
+        ensures names { IsTrue result → length self.now.names < 2 ^ 24 }
+    {
+        self.signature.symbol_count() < MOST && self.signature.name_count() < MOST
+    }
+}
+
 /// One more symbol, with a text that no other symbol and no name has.
 pub(crate) fn add_symbol(
-    signature: &mut Signature,
+    signature: &mut Ranked,
     text: &str,
     kind: SymKind,
     arity: u32,
@@ -22,38 +81,42 @@ pub(crate) fn add_symbol(
     ensures ok { OnOk result (signature.new ≡ with_symbol signature.old (record { name = text.now; kind = kind; arity = arity })) }
     ensures err { IfErr result (λ refusal. refusal ≡ NameRefusal.Memory) }
 {
-    if signature.symbol_count() >= MOST || signature.name_count() >= MOST {
+    if !signature.has_room() {
         return Err(NameRefusal::Memory);
     }
-    match signature.add_symbol(text, kind, arity) {
+    match signature.signature.add_symbol(text, kind, arity) {
         Ok(sym) => Ok(sym),
         Err(_) => Err(NameRefusal::Memory),
     }
 }
 
 /// One more name, with a text that no symbol and no other name has.
-pub(crate) fn add_name(
-    signature: &mut Signature,
-    text: &str,
-    private: bool,
-) -> Result<(), NameRefusal>
+pub(crate) fn add_name(signature: &mut Ranked, text: &str, private: bool) -> Result<(), NameRefusal>
     requires spelled { IsIdentifier text.now }
     ensures ok { OnOk result (signature.new ≡ with_name signature.old (record { name = text.now; is_private = private })) }
     ensures err { IfErr result (λ refusal. refusal ≡ NameRefusal.Memory) }
 {
-    if signature.symbol_count() >= MOST || signature.name_count() >= MOST {
+    if !signature.has_room() {
         return Err(NameRefusal::Memory);
     }
-    match signature.add_name(text, private) {
-        Ok(_) => Ok(()),
-        Err(_) => Err(NameRefusal::Memory),
+    let rank = signature.privates;
+    signature.ranks.push(rank)?;
+    match signature.signature.add_name(text, private) {
+        Ok(_) => {
+            signature.privates = rank + u64::from(private);
+            Ok(())
+        }
+        Err(_) => {
+            signature.ranks.pop();
+            Err(NameRefusal::Memory)
+        }
     }
 }
 
 /// The symbol of the tuples of this length. Where it isn't there yet, it is added with its projections.
 pub(crate) fn tuple_symbol(
     alloc: Global,
-    signature: &mut Signature,
+    signature: &mut Ranked,
     length: u32,
 ) -> Result<Sym, NameRefusal>
     requires some { 2 ≤ length }
@@ -63,7 +126,7 @@ pub(crate) fn tuple_symbol(
     ensures err { IfErr result (λ refusal. refusal ≡ NameRefusal.Memory) }
 {
     let name = tuple_text(length);
-    match signature.symbol(name) {
+    match signature.signature.symbol(name) {
         Some(sym) => Ok(sym),
         None => {
             let sym = add_symbol(signature, name, SymKind::Constructor, length)?;
@@ -75,7 +138,7 @@ pub(crate) fn tuple_symbol(
 
 /// The projections of the tuples of this length.
 #[tactic(auto, using(crate::proofs::Signatures::for_projections))]
-fn add_projections(alloc: Global, signature: &mut Signature, length: u32) -> Result<(), NameRefusal>
+fn add_projections(alloc: Global, signature: &mut Ranked, length: u32) -> Result<(), NameRefusal>
     requires some { 2 ≤ length }
     requires few { length ≤ 8 }
     ensures ok { OnOk result (signature.new ≡ record { symbols = signature.old.symbols ++ projections_from length 1 length; names = signature.old.names }) }
@@ -138,15 +201,11 @@ pub(crate) fn projection_symbol(tuple: Sym, index: u32) -> Result<Sym, NoMemory>
 }
 
 /// The number of a declared private name among the private ones.
-#[tactic(auto, using(crate::proofs::Signatures::for_privates))]
-pub(crate) fn private_number(signature: &Signature, number: u32) -> u64
+pub(crate) fn private_number(signature: &Ranked, number: u32) -> u64
     ensures { result ≡ private_number signature.now number }
 {
-    let mut privates = 0;
-    for name in 0..number.min(signature.name_count()) {
-        if signature.is_private(name) {
-            privates += 1;
-        }
+    match signature.ranks.get(number as usize) {
+        Some(rank) => *rank,
+        None => signature.privates,
     }
-    privates
 }

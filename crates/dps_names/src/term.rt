@@ -1,6 +1,6 @@
 //! Terms of processes. Each function reads the parts of one production.
 ghost use Rattle.std.specs.Prelude.{◌≡◌, ◌≤◌, ◌+◌, [], ◌∷◌, vec_len, IfOk, IfErr, OnOk};
-ghost use Rattle.dps_terms.specs.Tree.{var};
+ghost use Rattle.dps_terms.specs.Tree.{private, var};
 ghost use Rattle.dps_syntax.specs.Parts.{parts_of};
 ghost use Rattle.dps_names.specs.Outcome.{Answers};
 ghost use Rattle.dps_names.specs.Blocks.{blocks};
@@ -12,11 +12,11 @@ use crate::fault::{fault_at, place_of};
 use crate::meaning::{Meaning, meaning_of};
 use crate::parts::{count_inner, is_kind};
 use crate::scope::Scope;
-use crate::signature::{private_number, projection_symbol, tuple_symbol};
+use crate::signature::{Ranked, private_number, projection_symbol, tuple_symbol};
 use crate::{NameCause, NameRefusal, Use, Written};
 use dps_lex::TokenKind;
 use dps_syntax::{Leaf, Part};
-use dps_terms::{NoMemory, PublicName, Signature, Sym, Term};
+use dps_terms::{NoMemory, PublicName, Sym, Term};
 use std::alloc::{AllocError, Global};
 
 /// The greatest arity, and the greatest length of a tuple.
@@ -32,12 +32,12 @@ fn local_written(alloc: Global, number: usize) -> Result<Written, NoMemory>
     })
 }
 
-/// `var 0`, of which nothing is used: what no text writes.
+/// The first private name, of which nothing is used: what no text writes. A private name may stand in any scope.
 fn nothing_written(alloc: Global) -> Result<Written, NoMemory>
-    ensures { IfOk result (λ w. w ≡ written (var 0) []) }
+    ensures { IfOk result (λ w. w ≡ written (private 0) []) }
 {
     Ok(Written {
-        tree: Term::var(alloc, 0)?,
+        tree: Term::private(alloc, 0)?,
         uses: Vec::new(alloc),
     })
 }
@@ -45,7 +45,7 @@ fn nothing_written(alloc: Global) -> Result<Written, NoMemory>
 /// A declared name. A private one is written as its number among the private ones.
 fn name_written(
     alloc: Global,
-    signature: &Signature,
+    signature: &Ranked,
     leaf: &Leaf,
     number: u32,
     private: bool,
@@ -91,7 +91,7 @@ pub(crate) fn term(
     definitions: &Definitions,
     scope: &Scope<'_>,
     parts: &[Part],
-    signature: &mut Signature,
+    signature: &mut Ranked,
 ) -> Result<Written, NameRefusal>
     ensures { Answers (λ w. w) signature.new result (term definitions.now (blocks scope.now) (parts_of parts.now) signature.old) }
 {
@@ -120,7 +120,7 @@ fn identified(
     leaf: &Leaf,
     arguments: &[Part],
     meaning: Meaning,
-    signature: &mut Signature,
+    signature: &mut Ranked,
 ) -> Result<Written, NameRefusal>
     requires { HasLength meaning }
     ensures { Answers (λ w. w) signature.new result (identifier_as leaf.now (count_inner (parts_of arguments.now)) (terms definitions.now (blocks scope.now) (parts_of arguments.now)) signature.old meaning) }
@@ -168,7 +168,7 @@ fn bracketed(
     scope: &Scope<'_>,
     leaf: &Leaf,
     members: &[Part],
-    signature: &mut Signature,
+    signature: &mut Ranked,
 ) -> Result<Written, NameRefusal>
     ensures { Answers (λ w. w) signature.new result (tuple_of (count_inner (parts_of members.now)) (terms definitions.now (blocks scope.now) (parts_of members.now)) signature.old leaf.now) }
 {
@@ -203,7 +203,7 @@ pub(crate) fn terms(
     definitions: &Definitions,
     scope: &Scope<'_>,
     parts: &[Part],
-    signature: &mut Signature,
+    signature: &mut Ranked,
 ) -> Result<Vec<Written>, NameRefusal>
     ensures count { IfOk result (λ v. vec_len v ≡ count_inner (parts_of parts.now)) }
     ensures found { Answers (λ v. v.items) signature.new result (terms definitions.now (blocks scope.now) (parts_of parts.now) signature.old) }
@@ -225,7 +225,7 @@ pub(crate) fn identifier(
     definitions: &Definitions,
     scope: &Scope<'_>,
     leaf: &Leaf,
-    signature: &mut Signature,
+    signature: &mut Ranked,
 ) -> Result<Written, NameRefusal>
     ensures { Answers (λ w. w) signature.new result (identifier definitions.now (blocks scope.now) leaf.now signature.old) }
 {

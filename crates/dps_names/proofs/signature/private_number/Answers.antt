@@ -1,12 +1,18 @@
-use Rattle.dps_names.proofs.Signatures.{CountsPrivates, privates_private, privates_public}
-use Rattle.std.proofs.Common.{◌+◌, subst, sym}
+use Rattle.std.proofs.Common.{sym, subst}
+use Rattle.dps_names.specs.Ranks.{AreRanked}
+use Rattle.dps_names.proofs.Ranking.{rank_told, all_told}
 use Rattle.dps_names.proofs.signature.private_number.Goals as goal
-use Rattle.dps_names.proofs.signature.private_number.Goals.{then-is_private, else-is_private}
 
-pub loop-name-preserved : goal.loop-name-preserved
-loop-name-preserved c =
-    let names = c.args.signature.now.names in
-    elim c.if-is_private.branch [
-      | then-is_private w ↦ subst (CountsPrivates names (c.loop-name.name + 1)) (sym w.privates-is) (privates_private names c.loop-name.name c.loop-name.privates c.is_private.result c.loop-name.invariant c.is_private.ensures w.if-is_private.true)
-      | else-is_private w ↦ subst (CountsPrivates names (c.loop-name.name + 1)) (sym w.privates-is) (privates_public names c.loop-name.name c.loop-name.privates c.is_private.result c.loop-name.invariant c.is_private.ensures w.if-is_private.false)
-    ]
+pub returns-in-Some : goal.returns-in-Some
+returns-in-Some c =
+    let names = c.signature.inside.signature.names in
+    let privates = c.signature.inside.privates in
+    let ranked = subst (λ ms. AreRanked names ms privates) (sym c.deref.ensures.value) c.signature.invariant in
+    rw (← c.signature.view_is) (rank_told names c.deref.result.now privates c.args.number c.in-Some.rank.now ranked c.in-Some.ensures.lookup.3.0 c.in-Some.ensures.lookup.1)
+
+pub returns-in-None : goal.returns-in-None
+returns-in-None c =
+    let names = c.signature.inside.signature.names in
+    let privates = c.signature.inside.privates in
+    let ranked = subst (λ ms. AreRanked names ms privates) (sym c.deref.ensures.value) c.signature.invariant in
+    rw (← c.signature.view_is) (all_told names c.deref.result.now privates c.args.number ranked c.in-None.ensures.lookup.3)

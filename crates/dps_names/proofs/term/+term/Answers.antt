@@ -1,4 +1,4 @@
-use Rattle.std.proofs.Common.{◌≡◌, ◌<◌, get_or, sym, ap, ◌∙◌, arith}
+use Rattle.std.proofs.Common.{◌≡◌, get_or, sym, ap, ◌∙◌, arith}
 use Rattle.dps_syntax.specs.declared.tree.Part.TheVariants.{Inner}
 use Rattle.dps_syntax.specs.Tree.{Derivation, count}
 use Rattle.dps_syntax.specs.Parts.{parts_of}
