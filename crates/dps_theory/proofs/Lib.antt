@@ -14,3 +14,4 @@ pub mod Agreeing
 pub mod Accepting
 pub mod Projecting
 pub mod TupleRules
+pub mod Faults

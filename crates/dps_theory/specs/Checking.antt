@@ -63,3 +63,8 @@ IsRefused shapes rules (RightNotConstructor n) = IsFirstFault shapes rules n (Ri
 IsRefused shapes rules (NotSubterm n) = IsFirstFault shapes rules n (NotSubterm n)
 IsRefused shapes rules (Overlap first second unifier) = IsFirstOverlap shapes rules first second unifier
 IsRefused shapes rules Memory = ⊤
+
+-- the rules have a first fault: one that is refused by itself, or two that overlap
+pub data HaveFault (shapes : List Shape) (rules : List Rule) : Type 0 where
+  by_itself : (number : ℕ) (refusal : TheoryRefusal) → IsFirstFault shapes rules number refusal → HaveFault shapes rules
+  by_overlap : (first second : ℕ) (unifier : List (ℕ × Tree)) → IsFirstOverlap shapes rules first second unifier → HaveFault shapes rules

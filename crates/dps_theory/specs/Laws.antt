@@ -1,13 +1,34 @@
 -- What a reader expects of evaluation and static equivalence, each stated as one fact.
-use Rattle.std.specs.Prelude.{◌≡◌, ◌↔◌, ◌⊎◌, ℕ, List, take, length, All}
+use Rattle.std.specs.Prelude.{◌≡◌, ◌↔◌, ◌⊎◌, ℕ, List, ◌++◌, take, length, All}
 use Rattle.dps_terms.specs.declared.PublicName.TheVariants.{Declared}
 use Rattle.dps_terms.specs.Tree.{Leaf, public, Tree, leaf, StandsIn}
 use Rattle.dps_terms.specs.Replace.{replace}
-use Rattle.dps_terms.specs.Signature.{Signature, shapes}
+use Rattle.dps_terms.specs.Signature.{Shape, Signature, shapes}
 use Rattle.dps_terms.specs.Kinds.{AnySymbol, IsBuiltOf, IsLeafOver, IsName, IsNoVariable, IsPlain, IsRecipe}
 use Rattle.dps_theory.specs.Theory.{Rule, Theory, HasRule, IsAccepted, HasPlainRules}
+use Rattle.dps_theory.specs.Checking.{HaveFault}
+use Rattle.dps_theory.specs.Conditions.{AreCheckable, IsRuleOver}
+use Rattle.dps_theory.specs.Projections.{projections}
 use Rattle.dps_theory.specs.Evaluation.{Evaluates}
 use Rattle.dps_theory.specs.Frames.{HasValue, Succeeds, AreStaticallyEquivalent, AreToldApart}
+
+-- rules with a first fault make no accepted theory, also behind other rules
+abbrev pub FaultyRulesAreNotAccepted : Type 0
+FaultyRulesAreNotAccepted = (shapes : List Shape) (others rules : List Rule) → HaveFault shapes rules → ¬ IsAccepted (record { shapes = shapes; rules = others ++ rules })
+
+-- Rules of a signature that are accepted by themselves are accepted behind those of its projections, and all of them are over
+-- the signature and hold declared names and variables alone.
+pub record AreAcceptedOver (signature : Signature) (theory : Theory) : Type 0 where
+  pub accepted : IsAccepted theory
+  pub over : (r : Rule) → HasRule theory r → IsRuleOver signature r
+  pub plain : HasPlainRules theory
+
+abbrev pub AcceptedRulesJoinProjections : Type 0
+AcceptedRulesJoinProjections =
+    (signature : Signature) (rules : List Rule)
+    → AreCheckable signature rules
+    → IsAccepted (record { shapes = shapes signature; rules = rules })
+    → AreAcceptedOver signature (record { shapes = shapes signature; rules = projections signature ++ rules })
 
 -- under an accepted theory a term has at most one value
 abbrev pub EvaluatesAtMostOnce : Type 0

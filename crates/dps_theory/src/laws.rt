@@ -1,5 +1,15 @@
-//! The laws of evaluation and static equivalence. Each function does nothing: its contract is the law.
-ghost use Rattle.dps_theory.specs.Laws.{EvaluatesAtMostOnce, PlainStays, ValuesArePlain, ValuesHoldNoNewLeaf, PlainRulesAreKept, ReplacedNamesEvaluate, ReplacedNamesReflect, StaticallyReflexive, StaticallySymmetric, StaticallyTransitive, PrefixesStayEquivalent, SeparatedAreNotEquivalent, EquivalenceIsOfValues, UndeclaredNamesAreUnseen};
+//! The laws of theories, evaluation and static equivalence. Each function does nothing: its contract is the law.
+ghost use Rattle.dps_theory.specs.Laws.{FaultyRulesAreNotAccepted, AcceptedRulesJoinProjections, EvaluatesAtMostOnce, PlainStays, ValuesArePlain, ValuesHoldNoNewLeaf, PlainRulesAreKept, ReplacedNamesEvaluate, ReplacedNamesReflect, StaticallyReflexive, StaticallySymmetric, StaticallyTransitive, PrefixesStayEquivalent, SeparatedAreNotEquivalent, EquivalenceIsOfValues, UndeclaredNamesAreUnseen};
+
+/// Rules with a first fault make no accepted theory.
+pub fn faulty_rules_are_not_accepted()
+    ensures { FaultyRulesAreNotAccepted }
+{}
+
+/// Rules that are accepted by themselves are accepted behind those of the projections.
+pub fn accepted_rules_join_projections()
+    ensures { AcceptedRulesJoinProjections }
+{}
 
 /// Under an accepted theory a term evaluates to at most one value.
 pub fn evaluates_at_most_once()

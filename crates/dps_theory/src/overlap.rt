@@ -32,7 +32,7 @@ pub(crate) fn overlap(alloc: Global, first: &Rule, second: &Rule) -> Result<Opti
 }
 
 /// The least number above all of the term's variables.
-fn room_of(alloc: Global, term: &Term) -> Result<u64, NoMemory>
+pub(crate) fn room_of(alloc: Global, term: &Term) -> Result<u64, NoMemory>
     requires { All (λ n. n < 2 ^ 32) (variables term.now) }
     ensures { IfOk result (λ n. n ≡ least_above (variables term.now)) }
 {
