@@ -1,6 +1,12 @@
 pub mod Arms
 pub mod Checking
 pub mod HighBinders
+pub mod LawfulChannels
+pub mod LawfulExpansion
+pub mod LawfulSides
+pub mod Scoped
 pub mod Stack
 pub mod Terms
 pub mod Turns
+pub mod Flaws
+pub mod Naming

@@ -1,7 +1,11 @@
 pub mod Answers
 pub mod Expansion
+pub mod Laws
 pub mod Limits
 pub mod Locals
 pub mod Meaning
 pub mod Turns
 pub mod Writing
+pub mod Bindings
+pub mod Rules
+pub mod Naming
