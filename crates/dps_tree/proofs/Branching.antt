@@ -1,13 +1,12 @@
 -- The children of a node, one after another.
 use Rattle.std.proofs.Common.{◌≡◌, ℕ, ◌<◌, List, [], ◌∷◌, ◌++◌, refl, sym, ◌∙◌, ap, subst, inl, inr}
-use Rattle.std.specs.Prelude.{◌⊎◌, ◌↔◌, Contains, All}
+use Rattle.std.specs.Prelude.{◌⊎◌, Contains, All}
 use Rattle.std.specs.declared.cmp.Ordering.TheVariants.{Less}
 use Rattle.std.specs.Ordering.{nat_cmp}
 use Rattle.std.specs.BTreeMap.Range.{IsLtBy}
 use Rattle.std.proofs.lemmas.Cmp.{ranked}
 use Rattle.std.proofs.lemmas.List.Elements.{All-contains, Contains-append_cases}
-use Rattle.dps_process.specs.Steps.{Config}
-use Rattle.dps_tree.specs.Following.{OneOffers, AddsOneOffers}
+use Rattle.dps_tree.specs.Following.{AddsOneOffers}
 use Rattle.dps_tree.specs.Words.{IsAhead}
 use Rattle.dps_tree.specs.Nodes.{NodeOffers, HoldsOffers, IsChild, AreInOrder, AreChildren}
 use Rattle.dps_tree.specs.declared.node.Node.{Node}

@@ -1,10 +1,10 @@
 -- What a node's configurations put out is what goes on from the node's channels.
-use Rattle.std.proofs.Common.{◌≡◌, ℕ, suc, ◌+◌, ◌≤◌, ◌<◌, List, [], ◌∷◌, ◌++◌, length, refl, sym, ◌∙◌, ap, subst, inl, inr, arith, append_assoc, length-append}
-use Rattle.std.specs.Prelude.{◌⊎◌, ◌↔◌, Contains}
+use Rattle.std.proofs.Common.{◌≡◌, ℕ, suc, ◌+◌, ◌≤◌, List, [], ◌∷◌, ◌++◌, length, refl, sym, ◌∙◌, ap, subst, arith, append_assoc}
+use Rattle.std.specs.Prelude.{Contains}
 use Rattle.dps_terms.specs.Tree.{Tree}
 use Rattle.dps_process.specs.Process.{Process, nil, parallel, choice, conditional, bind, input, output, process_nodes, part_nodes}
 use Rattle.dps_process.specs.Steps.{Config, Takes, here, there}
-use Rattle.dps_tree.specs.Playing.{settled, Follows, Offers}
+use Rattle.dps_tree.specs.Playing.{settled, Offers}
 use Rattle.dps_tree.specs.Following.{AreFollowing, FollowsOne}
 use Rattle.dps_tree.specs.Nodes.{settled_start}
 use Rattle.dps_tree.proofs.Holding.{contains_one, contains_first}

@@ -1,15 +1,15 @@
 -- Which configurations follow, part by part and one after another.
-use Rattle.std.proofs.Common.{◌≡◌, ℕ, zero, suc, ◌<◌, ◌≤◌, ◌+◌, List, [], ◌∷◌, ◌++◌, length, refl, sym, ◌∙◌, ap, subst, inl, inr, arith, take, drop, Option, Some, None}
+use Rattle.std.proofs.Common.{◌≡◌, ℕ, zero, suc, ◌<◌, ◌≤◌, ◌+◌, List, [], ◌∷◌, ◌++◌, length, refl, sym, ◌∙◌, ap, subst, inl, inr, arith, take, drop, Option, Some}
 use Rattle.std.specs.Prelude.{◌⊎◌, ◌↔◌, Contains, slice_get}
 use Rattle.std.proofs.lemmas.Option.{slice_get_within, slice_get_read, none-some}
 use Rattle.dps_terms.specs.Tree.{Tree}
-use Rattle.dps_process.specs.Process.{Process, nil, parallel, choice, conditional, bind, input, output}
+use Rattle.dps_process.specs.Process.{Process, output}
 use Rattle.dps_process.specs.Steps.{Config, Takes, here, there}
 use Rattle.dps_process.specs.Views.{shown}
 use Rattle.dps_process.specs.declared.process.ProcessView.{ProcessView}
 use Rattle.dps_process.specs.declared.process.ProcessView.TheVariants.{Nil, Parallel, Choice, Conditional, Bind, Input, Output}
 use Rattle.dps_tree.specs.Playing.{settled, Follows, Offers}
-use Rattle.dps_tree.specs.Following.{FollowsOne, AreFollowing, AddsFollowing, FollowsAt, AddsPart, OneOffers, AddsOffers, AddsOneOffers, IsOutputOn, AddsOffer}
+use Rattle.dps_tree.specs.Following.{AreFollowing, AddsFollowing, FollowsAt, AddsPart, IsRepeated, AddsOffers, AddsOneOffers, IsOutputOn, AddsOffer}
 use Rattle.dps_tree.proofs.Holding.{contains_none, contains_pushed, contains_at}
 
 shifted : (q : Process) (ps : List Process) (j : ℕ) → drop (suc j + 1) (q ∷ ps) ≡ drop (j + 1) ps
@@ -85,6 +85,38 @@ adds_more k i c old mid new h g x = (
         elim (split_at j i l) [
           | inl b ↦ (g x).1 (inl ((h x).1 (inr (j, b, f))))
           | inr e ↦ (g x).1 (inr (subst (λ (n : ℕ). FollowsAt k n c x) e f))
+        ]
+
+without_repeated : (ps : List Process) (j : ℕ) (p : Process) → slice_get ps j ≡ Some p → slice_get ps (suc j) ≡ Some p → take (suc j) ps ++ drop (suc j + 1) ps ≡ take j ps ++ drop (j + 1) ps
+without_repeated [] j p e f = absurd (none-some p e)
+without_repeated (q ∷ []) zero p e f = absurd (none-some p f)
+without_repeated (q ∷ r ∷ ps) zero p e f =
+    let first : q ≡ p = cc in
+    let second : r ≡ p = cc in
+    ap (λ s. s ∷ ps) (first ∙ sym second)
+without_repeated (q ∷ ps) (suc j) p e f =
+    ap (λ rs. q ∷ (take (suc j) ps ++ rs)) (shifted q ps (suc j)) ∙ (ap (λ rs. q ∷ rs) (without_repeated ps j p e f) ∙ sym (ap (λ rs. q ∷ (take j ps ++ rs)) (shifted q ps j)))
+
+-- a part that is repeated adds nothing
+pub adds_repeated : (k : Config) (i c : ℕ) (old mid : List Config) → AddsUpTo k i c old mid → IsRepeated k.parts i → AddsUpTo k (i + 1) c old mid
+adds_repeated k i c old mid h r x = (
+  λ a. elim ((h x).0 a) [ inl b ↦ inl b | inr f ↦ inr (f.0, omega (arith, f.1), f.2) ],
+  elim [ inl b ↦ (h x).1 (inl b) | inr f ↦ earlier f.0 f.1 f.2 ],
+)
+  where
+    before : FollowsAt k i c x → FollowsAt k r.0 c x
+    before f = (
+      f.0,
+      f.1,
+      r.3 ∙ (sym r.4 ∙ f.2),
+      f.3 ∙ ap (λ ps. record { parts = settled f.1 ++ ps; frame = k.frame ++ f.0 ∷ [] }) (ap (λ n. take n k.parts ++ drop (n + 1) k.parts) r.2 ∙ without_repeated k.parts r.0 r.1 r.3 (ap (slice_get k.parts) (sym r.2) ∙ r.4)),
+    )
+
+    earlier : (j : ℕ) → j < i + 1 → FollowsAt k j c x → Contains mid x
+    earlier j l f =
+        elim (split_at j i l) [
+          | inl b ↦ (h x).1 (inr (j, b, f))
+          | inr e ↦ (h x).1 (inr (r.0, omega (arith, r.2), before (subst (λ (n : ℕ). FollowsAt k n c x) e f)))
         ]
 
 pub adds_all : (k : Config) (i c : ℕ) (old new : List Config) → length k.parts ≤ i → AddsUpTo k i c old new → AddsFollowing k c old new

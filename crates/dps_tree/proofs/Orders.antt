@@ -1,8 +1,6 @@
 -- Lists of channels, their order and their labels.
 use Rattle.std.proofs.Common.{◌≡◌, ℕ, ◌<◌, ◌+◌, List, [], ◌∷◌, ◌++◌, refl, sym, ◌∙◌, ap, inl, inr}
-use Rattle.std.specs.Prelude.{◌⊎◌}
-use Rattle.dps_process.specs.Steps.{Label, outputs}
-use Rattle.dps_tree.specs.Words.{outputs_from, word_of, IsUpTo, IsAhead}
+use Rattle.dps_tree.specs.Words.{outputs_from, IsUpTo, IsAhead}
 
 pub ahead_by : (w : List ℕ) (c d : ℕ) → c < d → IsAhead (w ++ c ∷ []) (w ++ d ∷ [])
 ahead_by [] c d h = inl h

@@ -1,5 +1,5 @@
 -- The nodes that are still to be looked at.
-use Rattle.std.proofs.Common.{◌≡◌, ℕ, zero, suc, ◌+◌, ◌-◌, ◌*◌, ◌^◌, ◌<◌, ◌≤◌, List, [], ◌∷◌, ◌++◌, length, refl, sym, ◌∙◌, ap, subst, inl, inr, arith, length-append}
+use Rattle.std.proofs.Common.{◌≡◌, ℕ, ◌+◌, ◌≤◌, List, [], ◌∷◌, ◌++◌, length, refl, sym, ◌∙◌, ap, subst, inl, inr, arith}
 use Rattle.std.specs.Prelude.{◌⊎◌, Contains, Some, None}
 use Rattle.std.proofs.lemmas.List.{append-nil}
 use Rattle.std.proofs.lemmas.List.Elements.{Contains-append_left, Contains-append_right, Contains-append_cases}
@@ -8,9 +8,8 @@ use Rattle.dps_branch.specs.declared.Side.TheVariants.{Left, Right}
 use Rattle.dps_branch.specs.Sides.{opposite}
 use Rattle.dps_terms.specs.Tree.{Tree}
 use Rattle.dps_theory.specs.Theory.{Theory}
-use Rattle.dps_theory.specs.Frames.{IsFrame, AreStaticallyEquivalent}
-use Rattle.dps_static.specs.Answer.{free_theory}
-use Rattle.dps_process.specs.Process.{Process, process_nodes, size}
+use Rattle.dps_theory.specs.Frames.{AreStaticallyEquivalent}
+use Rattle.dps_process.specs.Process.{Process, process_nodes}
 use Rattle.dps_process.specs.Problem.{Problem, side_of, IsLawful}
 use Rattle.dps_process.specs.Steps.{Config, Label}
 use Rattle.dps_process.specs.Traces.{IsEquivalent, IsTraceOf, IsAttack, Matches, IsIncluded}
@@ -19,17 +18,17 @@ use Rattle.dps_process.proofs.Tracing.{attack_refutes}
 use Rattle.dps_tree.specs.Plain.{IsPlain}
 use Rattle.dps_tree.specs.Words.{word_of, IsUpTo, IsAhead}
 use Rattle.dps_tree.specs.Answer.{IsLeastAttack}
-use Rattle.dps_tree.specs.Playing.{settled, Offers}
+use Rattle.dps_tree.specs.Playing.{settled}
 use Rattle.dps_tree.specs.Following.{OneOffers}
-use Rattle.dps_tree.specs.Matching.{HaveLength, AreLevel, AreFrames, IsMatchedBy, AreMatched, OneIsUnmatched}
+use Rattle.dps_tree.specs.Matching.{HaveLength, AreLevel, AreFrames, AreMatched, OneIsUnmatched}
 use Rattle.dps_tree.specs.Nodes.{settled_start, IsRoot, NodeOffers, IsChild, AreInOrder, AreChildren, SideAnswer}
 use Rattle.dps_tree.specs.declared.node.Node.{Node}
 use Rattle.dps_tree.proofs.Holding.{contains_none, contains_one, contains_pushed, contains_first}
 use Rattle.dps_tree.proofs.Orders.{ahead_longer, up_to_front, up_to_ahead, outputs_from-inj, longer}
 use Rattle.dps_tree.proofs.PlainParts.{IsPlainPart}
 use Rattle.dps_tree.proofs.PlainRuns.{trace_played, played_trace}
-use Rattle.dps_tree.proofs.PlainSides.{plain_side, theory_free}
-use Rattle.dps_tree.proofs.Plays.{Plays, stops, plays}
+use Rattle.dps_tree.proofs.PlainSides.{plain_side}
+use Rattle.dps_tree.proofs.Plays.{Plays, stops}
 use Rattle.dps_tree.proofs.Continuing.{Continues, root_continues, child_continues, plays_offered, offered_plays, played_length, played_short, settled_le}
 use Rattle.dps_tree.proofs.Branching.{in_order_append, in_order_split}
 
@@ -114,9 +113,13 @@ module _ (problem : Problem) (lawful : IsLawful problem) (plain : IsPlain proble
       let r = played side (word_of cs) frame t in subst (λ (ds : List ℕ). Plays (settled (side_of problem side)) ds frame) (sym (outputs_from-inj 1 cs r.0 r.1)) r.2
 
   -- the frames of a node
-  pub node_frames : (n : Node) (side : Side) → IsNodeOf problem n → AreFrames problem.signature (configs_of n side)
+  pub node_frames : (n : Node) (side : Side) → IsNodeOf problem n → AreFrames problem.signature problem.theory (configs_of n side)
   node_frames n side h k c =
-      traces_end_in_frames problem side (word_of n.channels.items) k.frame lawful (traced side n.channels.items k.frame (node_plays (continues_of problem n side h) k c))
+      record {
+        same_symbols = lawful.theory.same_symbols;
+        rules_over = lawful.theory.rules_over;
+        is_frame = traces_end_in_frames problem side (word_of n.channels.items) k.frame lawful (traced side n.channels.items k.frame (node_plays (continues_of problem n side h) k c));
+      }
 
   node_length : (n : Node) (side : Side) → IsNodeOf problem n → HaveLength (length n.channels.items) (configs_of n side)
   node_length n side h k c = played_length (node_plays (continues_of problem n side h) k c)
@@ -133,35 +136,27 @@ module _ (problem : Problem) (lawful : IsLawful problem) (plain : IsPlain proble
   short_of cs frame Left r = let h = played_short r in omega (arith, settled_le problem.left)
   short_of cs frame Right r = let h = played_short r in omega (arith, settled_le problem.right)
 
-  equivalent_here : (first second : List Tree) → AreStaticallyEquivalent problem.signature (free_theory problem.signature) first second → AreStaticallyEquivalent problem.signature problem.theory first second
-  equivalent_here first second h =
-      subst (λ (t : Theory). AreStaticallyEquivalent problem.signature t first second) (sym (theory_free problem lawful plain)) h
-
-  free_here : (first second : List Tree) → AreStaticallyEquivalent problem.signature problem.theory first second → AreStaticallyEquivalent problem.signature (free_theory problem.signature) first second
-  free_here first second h =
-      subst (λ (t : Theory). AreStaticallyEquivalent problem.signature t first second) (theory_free problem lawful plain) h
-
   -- where the configurations of a side are matched, its traces with these channels are
-  matched_here : (n : Node) (side : Side) (frame : List Tree) → IsNodeOf problem n → AreMatched problem.signature (configs_of n side) (configs_of n (opposite side)) → Plays (settled (side_of problem side)) n.channels.items frame → IsMatchedWord problem side n.channels.items frame
+  matched_here : (n : Node) (side : Side) (frame : List Tree) → IsNodeOf problem n → AreMatched problem.signature problem.theory (configs_of n side) (configs_of n (opposite side)) → Plays (settled (side_of problem side)) n.channels.items frame → IsMatchedWord problem side n.channels.items frame
   matched_here n side frame h m r =
       let k = played_at (continues_of problem n side h) frame r in
       let j = m k.0 k.1 in
-      (j.0.frame, node_plays (continues_of problem n (opposite side) h) j.0 j.1, subst (λ (f : List Tree). AreStaticallyEquivalent problem.signature problem.theory f j.0.frame) (sym k.2) (equivalent_here k.0.frame j.0.frame j.2))
+      (j.0.frame, node_plays (continues_of problem n (opposite side) h) j.0 j.1, subst (λ (f : List Tree). AreStaticallyEquivalent problem.signature problem.theory f j.0.frame) (sym k.2) j.2)
 
   matches : (side : Side) (cs : List ℕ) (frame : List Tree) → IsMatchedWord problem side cs frame → Matches problem.signature problem.theory (side_of problem (opposite side)) (word_of cs) frame
   matches side cs frame m = record { other = m.0; trace = traced (opposite side) cs m.0 m.1; equivalent = m.2 }
 
-  no_attack_here : (n : Node) (side : Side) → IsNodeOf problem n → AreMatched problem.signature (configs_of n side) (configs_of n (opposite side)) → ¬ IsAttack problem side (word_of n.channels.items)
+  no_attack_here : (n : Node) (side : Side) → IsNodeOf problem n → AreMatched problem.signature problem.theory (configs_of n side) (configs_of n (opposite side)) → ¬ IsAttack problem side (word_of n.channels.items)
   no_attack_here n side h m a =
       a.unmatched (matches side n.channels.items a.frame (matched_here n side a.frame h m (played_word side n.channels.items a.frame a.trace)))
 
-  attack_here : (n : Node) (side : Side) → IsNodeOf problem n → OneIsUnmatched problem.signature (configs_of n side) (configs_of n (opposite side)) → IsAttack problem side (word_of n.channels.items)
+  attack_here : (n : Node) (side : Side) → IsNodeOf problem n → OneIsUnmatched problem.signature problem.theory (configs_of n side) (configs_of n (opposite side)) → IsAttack problem side (word_of n.channels.items)
   attack_here n side h u = record {
     frame = u.0.frame;
     trace = traced side n.channels.items u.0.frame (node_plays (continues_of problem n side h) u.0 u.1);
     unmatched = λ m. (let r = played_word (opposite side) n.channels.items m.other m.trace in
         let k = played_at (continues_of problem n (opposite side) h) m.other r in
-        u.2 (k.0, k.1, subst (λ (f : List Tree). AreStaticallyEquivalent problem.signature (free_theory problem.signature) u.0.frame f) k.2 (free_here u.0.frame m.other m.equivalent)));
+        u.2 (k.0, k.1, subst (λ (f : List Tree). AreStaticallyEquivalent problem.signature problem.theory u.0.frame f) k.2 m.equivalent));
   }
 
   -- each attack goes on from a node that is still to be looked at, so it is not before the last one
@@ -169,7 +164,7 @@ module _ (problem : Problem) (lawful : IsLawful problem) (plain : IsPlain proble
   least_here rest n h other word a =
       let r = played other word a.frame a.trace in (r.0, r.1, elim (h.unfinished other r.0 a.frame r.2) [ inl m ↦ absurd (a.unmatched (subst (λ (w : List Label). Matches problem.signature problem.theory (side_of problem (opposite other)) w a.frame) (sym r.1) (matches other r.0 a.frame m))) | inr b ↦ subst (λ (w : List ℕ). IsUpTo n.channels.items w) (sym b.2.1) (elim ((contains_pushed rest n b.0).0 b.1) [ inl c ↦ up_to_ahead n.channels.items b.0.channels.items b.2.0 ((in_order_split rest n h.ordered).1 b.0 c) | inr e ↦ subst (λ (m : Node). IsUpTo n.channels.items (m.channels.items ++ b.2.0)) (sym e) (up_to_front n.channels.items b.2.0) ]) ])
 
-  pub attacked : (rest : List Node) (n : Node) (side : Side) → IsPending problem (rest ++ n ∷ []) → SideAnswer n problem.signature (Some side) → IsLeastAttack problem side n.channels.items
+  pub attacked : (rest : List Node) (n : Node) (side : Side) → IsPending problem (rest ++ n ∷ []) → SideAnswer n problem.signature problem.theory (Some side) → IsLeastAttack problem side n.channels.items
   attacked rest n Left h u = record {
     attack = attack_here n Left (last_node problem rest n h) u;
     least = least_here rest n h;
@@ -200,11 +195,11 @@ module _ (problem : Problem) (lawful : IsLawful problem) (plain : IsPlain proble
   offers_node n Left c f = inl f
   offers_node n Right c f = inr f
 
-  matched_side : (n : Node) (side : Side) → SideAnswer n problem.signature None → AreMatched problem.signature (configs_of n side) (configs_of n (opposite side))
+  matched_side : (n : Node) (side : Side) → SideAnswer n problem.signature problem.theory None → AreMatched problem.signature problem.theory (configs_of n side) (configs_of n (opposite side))
   matched_side n Left m = m.0
   matched_side n Right m = m.1
 
-  goes_on : (rest : List Node) (n : Node) (children : List Node) (side : Side) (cs : List ℕ) (frame : List Tree) → IsNodeOf problem n → SideAnswer n problem.signature None → AreChildren n children → Plays (settled (side_of problem side)) cs frame → (ds : List ℕ) → cs ≡ n.channels.items ++ ds → IsMatchedWord problem side cs frame ⊎ IsBelow (rest ++ children) cs
+  goes_on : (rest : List Node) (n : Node) (children : List Node) (side : Side) (cs : List ℕ) (frame : List Tree) → IsNodeOf problem n → SideAnswer n problem.signature problem.theory None → AreChildren n children → Plays (settled (side_of problem side)) cs frame → (ds : List ℕ) → cs ≡ n.channels.items ++ ds → IsMatchedWord problem side cs frame ⊎ IsBelow (rest ++ children) cs
   goes_on rest n children side cs frame h m k r [] e =
       let same : cs ≡ n.channels.items = e ∙ append-nil n.channels.items in
       inl (subst (λ (w : List ℕ). IsMatchedWord problem side w frame) (sym same) (matched_here n side frame h (matched_side n side m) (subst (λ (w : List ℕ). Plays (settled (side_of problem side)) w frame) same r)))
@@ -214,7 +209,7 @@ module _ (problem : Problem) (lawful : IsLawful problem) (plain : IsPlain proble
       let child = k.complete d o in
       inr (child.0, Contains-append_right rest children child.0 child.1, (ds, longer n.channels.items ds cs d e ∙ ap (λ w. w ++ ds) (sym child.2)))
 
-  pub looked_at : (rest : List Node) (n : Node) (children : List Node) → IsPending problem (rest ++ n ∷ []) → SideAnswer n problem.signature None → AreChildren n children → IsPending problem (rest ++ children)
+  pub looked_at : (rest : List Node) (n : Node) (children : List Node) → IsPending problem (rest ++ n ∷ []) → SideAnswer n problem.signature problem.theory None → AreChildren n children → IsPending problem (rest ++ children)
   looked_at rest n children h m k =
       let here = last_node problem rest n h in
       let split = in_order_split rest n h.ordered in

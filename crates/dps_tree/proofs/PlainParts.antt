@@ -1,10 +1,7 @@
 -- Parts of outputs alone, whose messages are frame messages over the signature.
-use Rattle.std.proofs.Common.{◌≡◌, ℕ, List, [], ◌∷◌, ◌++◌, subst, sym, ap}
-use Rattle.std.specs.Prelude.{⊤, All}
-use Rattle.dps_terms.specs.Tree.{Leaf, public, private, var, ax, entry, rigid, Tree}
-use Rattle.dps_terms.specs.Signature.{Signature, IsPublic, shapes}
-use Rattle.dps_terms.specs.Kinds.{IsName, IsPlain, IsFrameLeaf, IsFrameMessage, IsOver}
-use Rattle.dps_theory.specs.Theory.{Theory}
+use Rattle.std.proofs.Common.{List, [], ◌∷◌, ◌++◌}
+use Rattle.std.specs.Prelude.{⊤}
+use Rattle.dps_terms.specs.Signature.{Signature, IsPublic}
 use Rattle.dps_process.specs.Process.{Process, nil, parallel, choice, conditional, bind, input, output}
 use Rattle.dps_process.specs.Steps.{Takes, here, there}
 use Rattle.dps_process.proofs.Values.{IsMessageOver}

@@ -1,18 +1,17 @@
 -- The runs of parts of outputs are what the parts put out.
-use Rattle.std.proofs.Common.{◌≡◌, ℕ, ◌+◌, List, [], ◌∷◌, ◌++◌, length, refl, sym, ◌∙◌, ap, subst, append_assoc, length-append, arith}
+use Rattle.std.proofs.Common.{◌≡◌, ℕ, ◌+◌, List, [], ◌∷◌, ◌++◌, length, refl, sym, ◌∙◌, ap, subst, append_assoc, length-append}
 use Rattle.std.proofs.lemmas.List.{append-nil}
 use Rattle.dps_terms.specs.Tree.{Leaf, public, private, var, ax, entry, rigid, Tree}
 use Rattle.dps_terms.specs.Signature.{Signature, Shape, HasShape, shapes}
 use Rattle.dps_terms.specs.declared.SymKind.TheVariants.{Constructor}
-use Rattle.dps_terms.specs.Kinds.{IsName, IsPlain, IsFrameLeaf, IsFrameMessage}
+use Rattle.dps_terms.specs.Kinds.{IsName, IsPlain, IsFrameLeaf}
 use Rattle.dps_terms.proofs.Building.{built_weaker}
 use Rattle.dps_theory.specs.Theory.{Theory}
-use Rattle.dps_theory.specs.Evaluation.{Evaluates}
 use Rattle.dps_theory.proofs.Evaluating.{plain_evaluates, plain_alone}
 use Rattle.dps_process.specs.Process.{Process, nil, parallel, choice, conditional, bind, input, output}
-use Rattle.dps_process.specs.Steps.{Config, start, Label, outputs, Action, silent, shows, Takes, here, there, Moves, ends, splits, first, second, passes, fails, binds, binds_not, receives, sends, Meets, meets, Step, alone, together, IsReordered, AreOneBag}
+use Rattle.dps_process.specs.Steps.{Config, Label, outputs, silent, shows, Takes, here, Moves, ends, splits, first, second, passes, fails, binds, binds_not, receives, sends, Meets, meets, Step, alone, together}
 use Rattle.dps_process.specs.Traces.{Runs, done, silently, visibly, Ends, IsTrace}
-use Rattle.dps_process.proofs.Bags.{reordered_refl, reordered_sym, ends_reordered}
+use Rattle.dps_process.proofs.Bags.{ends_reordered}
 use Rattle.dps_process.proofs.Values.{IsMessageOver}
 use Rattle.dps_tree.specs.Playing.{settled}
 use Rattle.dps_tree.specs.Words.{outputs_from, word_of}

@@ -12,12 +12,10 @@ use Rattle.dps_terms.specs.declared.SymKind.{SymKind}
 use Rattle.dps_terms.specs.declared.SymKind.TheVariants.{Constructor}
 use Rattle.dps_terms.specs.Tree.{Leaf, public, private, var, ax, entry, rigid, Tree, StandsIn}
 use Rattle.dps_terms.specs.Signature.{Signature, Symbol, Shape, HasShape, HasArity, shapes, shape_of}
-use Rattle.dps_terms.specs.Kinds.{IsSourceLeaf, IsSourceName, IsSourceTerm, IsFrameLeaf, IsFrameMessage, IsLeafOver, IsDeclared, IsOver}
+use Rattle.dps_terms.specs.Kinds.{IsSourceLeaf, IsSourceName, IsSourceTerm, IsFrameLeaf, IsLeafOver, IsDeclared}
 use Rattle.dps_terms.proofs.Building.{built_subterm, leaf_meets, built_of}
-use Rattle.dps_theory.specs.Theory.{Theory}
-use Rattle.dps_static.specs.Answer.{free_theory}
 use Rattle.dps_process.specs.Process.{Process, nil, parallel, choice, conditional, bind, input, output, IsClosedProcess, EachTerm}
-use Rattle.dps_process.specs.Problem.{Problem, side_of, IsLawful, IsLawfulSide}
+use Rattle.dps_process.specs.Problem.{Problem, side_of, IsLawful}
 use Rattle.dps_process.proofs.Values.{IsMessageOver}
 use Rattle.dps_tree.specs.Plain.{HasOutputsAlone, IsPlain}
 use Rattle.dps_tree.proofs.PlainParts.{IsPlainPart}
@@ -76,7 +74,3 @@ module _ (signature : Signature) (constructors : All (λ (a : Symbol). a.kind �
 pub plain_side : (problem : Problem) (side : Side) → IsLawful problem → IsPlain problem → IsPlainPart problem.signature (side_of problem side)
 plain_side problem Left l h = plain_part problem.signature h.constructors problem.left h.left l.left.terms l.left.closed
 plain_side problem Right l h = plain_part problem.signature h.constructors problem.right h.right l.right.terms l.right.closed
-
--- the theory is that of the symbols alone
-pub theory_free : (problem : Problem) → IsLawful problem → IsPlain problem → problem.theory ≡ free_theory problem.signature
-theory_free problem l h = λ i. record { shapes = l.theory.same_symbols i; rules = h.no_rules i }

@@ -1,8 +1,8 @@
 -- What parts put out, in any order that they allow.
-use Rattle.std.proofs.Common.{◌≡◌, ℕ, ◌+◌, List, [], ◌∷◌, ◌++◌, refl, sym, ◌∙◌, ap, subst, append_assoc}
+use Rattle.std.proofs.Common.{ℕ, List, [], ◌∷◌, ◌++◌}
 use Rattle.dps_terms.specs.Tree.{Tree}
-use Rattle.dps_process.specs.Process.{Process, nil, parallel, output}
-use Rattle.dps_process.specs.Steps.{Takes, here, there, IsReordered, no_parts, a_part}
+use Rattle.dps_process.specs.Process.{Process, output}
+use Rattle.dps_process.specs.Steps.{Takes, here, there, IsReordered, a_part}
 use Rattle.dps_process.proofs.Bags.{reordered_refl, reordered_trans, taken_reordered, before_reordered}
 use Rattle.dps_tree.specs.Playing.{settled}
 

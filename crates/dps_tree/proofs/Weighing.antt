@@ -1,9 +1,9 @@
 -- A node weighs more than its children together.
-use Rattle.std.proofs.Common.{◌≡◌, ℕ, zero, suc, ◌+◌, ◌-◌, ◌*◌, ◌^◌, ◌<◌, ◌≤◌, List, [], ◌∷◌, ◌++◌, length, refl, sym, ◌∙◌, ap, subst, arith, length-append, lit<}
+use Rattle.std.proofs.Common.{◌≡◌, ℕ, zero, suc, ◌+◌, ◌-◌, ◌*◌, ◌^◌, ◌<◌, ◌≤◌, List, [], ◌∷◌, ◌++◌, length, ◌∙◌, ap, arith, length-append, lit<}
 use Rattle.std.specs.Prelude.{Contains}
 use Rattle.std.proofs.Math.Nat.{mul-le-mul_left}
 use Rattle.dps_process.specs.Problem.{Problem}
-use Rattle.dps_tree.specs.Nodes.{NodeOffers, IsChild, AreChildren}
+use Rattle.dps_tree.specs.Nodes.{IsChild, AreChildren}
 use Rattle.dps_tree.specs.declared.node.Node.{Node}
 use Rattle.dps_tree.proofs.Holding.{contains_first, contains_later}
 use Rattle.dps_tree.proofs.Pending.{longest, IsNodeOf}

@@ -1,5 +1,5 @@
 -- Which configurations follow those of a list, and on which channels.
-use Rattle.std.specs.Prelude.{◌≡◌, ◌⊎◌, ◌↔◌, ℕ, ◌+◌, List, [], ◌∷◌, ◌++◌, take, drop, Some, slice_get, Contains}
+use Rattle.std.specs.Prelude.{◌≡◌, ◌⊎◌, ◌↔◌, ℕ, suc, ◌+◌, List, [], ◌∷◌, ◌++◌, take, drop, Some, slice_get, Contains}
 use Rattle.dps_terms.specs.Tree.{Tree}
 use Rattle.dps_process.specs.Process.{Process, output}
 use Rattle.dps_process.specs.Steps.{Config}
@@ -26,6 +26,10 @@ FollowsAt k i c next =
 
 abbrev pub AddsPart : Config → ℕ → ℕ → List Config → List Config → Type 0
 AddsPart k i c old new = (next : Config) → Contains new next ↔ (Contains old next ⊎ FollowsAt k i c next)
+
+-- the part at this place is the one before it
+abbrev pub IsRepeated : List Process → ℕ → Type 0
+IsRepeated ps i = (j : ℕ) × (p : Process) × (i ≡ suc j) × (slice_get ps j ≡ Some p) × (slice_get ps i ≡ Some p)
 
 -- some configuration of the list offers an output on the channel
 abbrev pub OneOffers : List Config → ℕ → Type 0

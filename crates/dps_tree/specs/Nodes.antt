@@ -3,6 +3,7 @@ use Rattle.std.specs.Prelude.{◌≡◌, ◌⊎◌, ◌↔◌, ℕ, List, [], �
 use Rattle.dps_branch.specs.declared.Side.{Side}
 use Rattle.dps_branch.specs.declared.Side.TheVariants.{Left, Right}
 use Rattle.dps_terms.specs.Signature.{Signature}
+use Rattle.dps_theory.specs.Theory.{Theory}
 use Rattle.dps_process.specs.Process.{Process}
 use Rattle.dps_process.specs.Problem.{Problem}
 use Rattle.dps_process.specs.Steps.{Config}
@@ -48,12 +49,15 @@ pub record AreChildren (node : Node) (children : List Node) : Type 0 where
   pub ordered : AreInOrder children
 
 -- which side has a configuration that none of the other matches; the left one where both have
-abbrev pub SideAnswer : Node → Signature → Option Side → Type 0
-SideAnswer node signature None = AreMatched signature node.left.items node.right.items × AreMatched signature node.right.items node.left.items
-SideAnswer node signature (Some Left) = OneIsUnmatched signature node.left.items node.right.items
-SideAnswer node signature (Some Right) = OneIsUnmatched signature node.right.items node.left.items × AreMatched signature node.left.items node.right.items
+abbrev pub SideAnswer : Node → Signature → Theory → Option Side → Type 0
+SideAnswer node signature theory None =
+    AreMatched signature theory node.left.items node.right.items × AreMatched signature theory node.right.items node.left.items
+SideAnswer node signature theory (Some Left) = OneIsUnmatched signature theory node.left.items node.right.items
+SideAnswer node signature theory (Some Right) =
+    OneIsUnmatched signature theory node.right.items node.left.items × AreMatched signature theory node.left.items node.right.items
 
--- over each signature over which all are frames
-abbrev pub IsSideAnswer : Node → Option Side → Type 0
-IsSideAnswer node answer =
-    (signature : Signature) → AreFrames signature node.left.items → AreFrames signature node.right.items → SideAnswer node signature answer
+-- over each signature over which the theory and all frames are
+abbrev pub IsSideAnswer : Theory → Node → Option Side → Type 0
+IsSideAnswer theory node answer =
+    (signature : Signature) → AreFrames signature theory node.left.items → AreFrames signature theory node.right.items
+    → SideAnswer node signature theory answer

@@ -3,6 +3,7 @@ ghost use Rattle.std.specs.Prelude.{◌≡◌, ◌↔◌, ◌<◌, ◌+◌, ◌+
 ghost use Rattle.dps_tree.specs.Playing.{settled};
 
 use dps_process::{Process, ProcessView};
+use dps_recipes::Frame;
 use dps_terms::{NoMemory, Term};
 use std::alloc::{AllocError, Global};
 use std::marker::Model;
@@ -11,7 +12,7 @@ use std::marker::Model;
 #[derive(Drop)]
 pub(crate) struct Config {
     pub(crate) parts: Vec<Process>,
-    pub(crate) frame: Vec<Term>,
+    pub(crate) frame: Frame,
 }
 
 impl Model for Config {
@@ -22,7 +23,7 @@ impl Model for Config {
 
     ghost coded = { config_code };
 
-    ghost view = { λ a. record { parts = a.parts.items; frame = a.frame.items } };
+    ghost view = { λ a. record { parts = a.parts.items; frame = a.frame } };
 }
 
 impl Config {
@@ -34,7 +35,9 @@ impl Config {
         settle(alloc, process, &mut parts)?;
         Ok(Config {
             parts,
-            frame: Vec::new(alloc),
+            frame: Frame {
+                messages: Vec::new(alloc),
+            },
         })
     }
 
@@ -53,16 +56,19 @@ impl Config {
         settle(alloc, then, &mut parts)?;
         add_copies(alloc, &self.parts[..part], &mut parts)?;
         add_copies(alloc, &self.parts[part + 1..], &mut parts)?;
-        let mut frame = copies(alloc, &self.frame)?;
-        frame.push(message.copy(alloc)?)?;
-        Ok(Config { parts, frame })
+        let mut messages = copies(alloc, &self.frame.messages)?;
+        messages.push(message.copy(alloc)?)?;
+        Ok(Config {
+            parts,
+            frame: Frame { messages },
+        })
     }
 
     /// Whether the two have the same parts in one order, and the same frame.
     pub(crate) fn equals(&self, other: &Config) -> bool
         ensures { IsTrue result ↔ (self.now ≡ other.now) }
     {
-        are_equal_parts(&self.parts, &other.parts) && are_equal_terms(&self.frame, &other.frame)
+        are_equal_parts(&self.parts, &other.parts) && are_equal_frames(&self.frame, &other.frame)
     }
 }
 
@@ -121,6 +127,13 @@ fn are_equal_parts(parts: &[Process], others: &[Process]) -> bool
         }
     }
     true
+}
+
+/// Whether the frames are the same.
+pub(crate) fn are_equal_frames(frame: &Frame, other: &Frame) -> bool
+    ensures { IsTrue result ↔ (frame.now ≡ other.now) }
+{
+    are_equal_terms(&frame.messages, &other.messages)
 }
 
 /// Whether the lists are the same.

@@ -1,9 +1,9 @@
 //! Which configurations follow one another.
-ghost use Rattle.std.specs.Prelude.{◌≡◌, ◌<◌, ◌↔◌, ◌⊎◌, length, IfOk, OnOk, IsTrue, Contains};
-ghost use Rattle.dps_process.specs.Steps.{Config};
-ghost use Rattle.dps_tree.specs.Following.{AreFollowing, AddsFollowing, AddsPart, AddsOffer, AddsOffers, AddsOneOffers};
+ghost use Rattle.std.specs.Prelude.{◌<◌, length, IfOk, OnOk, IsTrue};
+ghost use Rattle.dps_tree.specs.Following.{AreFollowing, AddsFollowing, AddsPart, IsRepeated, AddsOffer, AddsOffers, AddsOneOffers};
 
 use crate::config::Config;
+use crate::found::Found;
 use dps_process::{Process, ProcessView};
 use dps_terms::NoMemory;
 use std::alloc::{AllocError, Global};
@@ -17,11 +17,11 @@ pub(crate) fn following(
 ) -> Result<Vec<Config>, NoMemory>
     ensures { IfOk result (λ found. AreFollowing configs.now channel found.items) }
 {
-    let mut found = Vec::new(alloc);
+    let mut found = Found::new(alloc);
     for config in configs {
         add_following(alloc, config, channel, &mut found)?;
     }
-    Ok(found)
+    Ok(found.into_list())
 }
 
 /// Adds those that follow one configuration, where they are new.
@@ -29,14 +29,24 @@ fn add_following(
     alloc: Global,
     config: &Config,
     channel: u32,
-    found: &mut Vec<Config>,
+    found: &mut Found,
 ) -> Result<(), NoMemory>
-    ensures { OnOk result (AddsFollowing config.now channel found.old.items found.new.items) }
+    ensures { OnOk result (AddsFollowing config.now channel found.old found.new) }
 {
     for index in 0..config.parts.len() {
-        add_part(alloc, config, index, channel, found)?;
+        if !is_repeated(&config.parts, index) {
+            add_part(alloc, config, index, channel, found)?;
+        }
     }
     Ok(())
+}
+
+/// Whether the part before this one is the same. Then what follows by the one follows by the other.
+fn is_repeated(parts: &[Process], index: usize) -> bool
+    requires { index < length parts.now }
+    ensures { IsTrue result → IsRepeated parts.now index }
+{
+    index > 0 && parts[index - 1].equals(&parts[index])
 }
 
 /// Adds what follows where this part puts out its message, if it does so on the channel.
@@ -45,37 +55,20 @@ fn add_part(
     config: &Config,
     index: usize,
     channel: u32,
-    found: &mut Vec<Config>,
+    found: &mut Found,
 ) -> Result<(), NoMemory>
     requires { index < length config.now.parts }
-    ensures { OnOk result (AddsPart config.now index channel found.old.items found.new.items) }
+    ensures { OnOk result (AddsPart config.now index channel found.old found.new) }
 {
     let part = &config.parts[index];
     if let ProcessView::Output(offered, message, then) = part.view() {
         if offered == channel {
             let next = config.after(alloc, index, message, then)?;
-            add_new(next, found)?;
+            found.add(alloc, next)?;
             return Ok(());
         }
     }
     Ok(())
-}
-
-/// Adds a configuration, where it is new.
-fn add_new(config: Config, found: &mut Vec<Config>) -> Result<(), NoMemory>
-    ensures { OnOk result ((k : Config) → Contains found.new.items k ↔ (Contains found.old.items k ⊎ (k ≡ config))) }
-{
-    if !holds(found, &config) {
-        found.push(config)?;
-    }
-    Ok(())
-}
-
-/// Whether the configuration is one of them.
-fn holds(configs: &[Config], config: &Config) -> bool
-    ensures { IsTrue result ↔ Contains configs.now config.now }
-{
-    configs.iter().any(|k| k.equals(config))
 }
 
 /// Adds the channels on which some configuration offers an output.

@@ -10,10 +10,14 @@ ghost use Rattle.dps_tree.specs.Answer.{IsPlainAnswer};
 ghost use Rattle.dps_tree.specs.Plain.{IsPlain};
 
 mod config;
+mod digest;
 mod following;
+mod found;
 mod matching;
 mod node;
 mod plain;
+#[cfg(test)]
+mod tests;
 
 use crate::node::Node;
 use dps_branch::Side;
@@ -39,10 +43,11 @@ pub fn plain_check(alloc: Global, problem: &Problem) -> Result<Option<PlainAttac
     requires { IsPlain problem.now }
     ensures { IfOk result (IsPlainAnswer problem.now) }
 {
+    let theory = problem.theory();
     let mut pending = Vec::new(alloc);
     pending.push(Node::root(alloc, problem)?)?;
     while let Some(node) = pending.pop() {
-        if let Some(side) = node.attacked_side(alloc)? {
+        if let Some(side) = node.attacked_side(alloc, theory)? {
             return Ok(Some(PlainAttack {
                 side,
                 channels: node.into_channels(),

@@ -9,6 +9,7 @@ use crate::matching::are_matched;
 use dps_branch::Side;
 use dps_process::Problem;
 use dps_terms::NoMemory;
+use dps_theory::Theory;
 use std::alloc::{AllocError, Global};
 use std::collections::BTreeSet;
 
@@ -38,14 +39,18 @@ impl Node {
     }
 
     /// The side that has a configuration which no configuration of the other matches; the left one where both have.
-    pub(crate) fn attacked_side(&self, alloc: Global) -> Result<Option<Side>, NoMemory>
+    pub(crate) fn attacked_side(
+        &self,
+        alloc: Global,
+        theory: &Theory,
+    ) -> Result<Option<Side>, NoMemory>
         requires { AreLevel self.now.left.items self.now.right.items }
-        ensures { IfOk result (IsSideAnswer self.now) }
+        ensures { IfOk result (IsSideAnswer theory.now self.now) }
     {
-        if !are_matched(alloc, &self.left, &self.right)? {
+        if !are_matched(alloc, theory, &self.left, &self.right)? {
             return Ok(Some(Side::Left));
         }
-        if !are_matched(alloc, &self.right, &self.left)? {
+        if !are_matched(alloc, theory, &self.right, &self.left)? {
             return Ok(Some(Side::Right));
         }
         Ok(None)

@@ -1,8 +1,6 @@
-use Rattle.std.proofs.Common.{◌≡◌, ◌<◌, ◌^◌, List, [], ◌++◌, length, arith, sym, subst, Option, Some, None}
-use Rattle.dps_branch.specs.declared.Side.{Side}
+use Rattle.std.proofs.Common.{◌≡◌, ◌<◌, ◌^◌, List, ◌++◌, length, arith, sym, subst}
 use Rattle.dps_branch.specs.declared.Side.TheVariants.{Left, Right}
 use Rattle.dps_tree.specs.Nodes.{SideAnswer}
-use Rattle.dps_tree.specs.Answer.{IsLeastAttack}
 use Rattle.dps_tree.specs.declared.node.Node.{Node}
 use Rattle.dps_tree.proofs.Holding.{no_items}
 use Rattle.dps_tree.proofs.Pending.{IsPending, root_pending, last_node, node_level, node_frames, attacked, looked_at, none_pending}
@@ -23,9 +21,9 @@ returns-in-Some-2 c =
     let lawful = c.root.ensures.lawful in
     let pending = subst (IsPending problem) c.in-Some.ensures.items c.loop-node.invariant in
     let node = last_node problem c.pop.new.self.items c.in-Some.node pending in
-    let answer = c.in_ok-side.ensures problem.signature (node_frames problem lawful c.requires c.in-Some.node Left node) (node_frames problem lawful c.requires c.in-Some.node Right node) in
+    let answer = (rw c.theory-theory.ensures.theory at c.in_ok-side.ensures) problem.signature (node_frames problem lawful c.requires c.in-Some.node Left node) (node_frames problem lawful c.requires c.in-Some.node Right node) in
     rw c.into_channels.ensures
-    (attacked problem lawful c.requires c.pop.new.self.items c.in-Some.node c.in-Some-2.side pending (subst (SideAnswer c.in-Some.node problem.signature) c.in-Some-2.is answer))
+    (attacked problem lawful c.requires c.pop.new.self.items c.in-Some.node c.in-Some-2.side pending (subst (SideAnswer c.in-Some.node problem.signature problem.theory) c.in-Some-2.is answer))
 
 pub loop-node-preserved : goal.loop-node-preserved
 loop-node-preserved c =
@@ -33,9 +31,9 @@ loop-node-preserved c =
     let lawful = c.root.ensures.lawful in
     let pending = subst (IsPending problem) c.in-Some.ensures.items c.loop-node.invariant in
     let node = last_node problem c.pop.new.self.items c.in-Some.node pending in
-    let answer = c.in_ok-side.ensures problem.signature (node_frames problem lawful c.requires c.in-Some.node Left node) (node_frames problem lawful c.requires c.in-Some.node Right node) in
+    let answer = (rw c.theory-theory.ensures.theory at c.in_ok-side.ensures) problem.signature (node_frames problem lawful c.requires c.in-Some.node Left node) (node_frames problem lawful c.requires c.in-Some.node Right node) in
     rw c.in_ok-append.ensures.items
-    (looked_at problem lawful c.requires c.pop.new.self.items c.in-Some.node c.in_ok-children.children.items pending (subst (SideAnswer c.in-Some.node problem.signature) c.in_default-2.is answer) c.in_ok-children.ensures)
+    (looked_at problem lawful c.requires c.pop.new.self.items c.in-Some.node c.in_ok-children.children.items pending (subst (SideAnswer c.in-Some.node problem.signature problem.theory) c.in_default-2.is answer) c.in_ok-children.ensures)
 
 pub loop-node-smaller : goal.loop-node-smaller
 loop-node-smaller c =

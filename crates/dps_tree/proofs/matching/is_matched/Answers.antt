@@ -1,18 +1,25 @@
-use Rattle.std.proofs.Common.{List, take, ap, ◌∙◌, subst, false}
+use Rattle.std.proofs.Common.{List, take, ap, ◌∙◌, subst, false, true}
 use Rattle.dps_terms.specs.Tree.{Tree}
 use Rattle.dps_process.specs.Steps.{Config}
 use Rattle.dps_tree.specs.Matching.{IsMatchAnswer, AreAlikeAnswer}
-use Rattle.dps_tree.proofs.Holding.{taken_more, taken_all}
-use Rattle.dps_tree.proofs.Matchings.{unmatched_by_more}
+use Rattle.dps_tree.proofs.Holding.{contains_item, taken_more, taken_all}
+use Rattle.dps_tree.proofs.Matchings.{unmatched_by_more, matched_by_one}
 use Rattle.dps_tree.proofs.matching.is_matched.Goals as goal
 
 pub loop-other-preserved : goal.loop-other-preserved
 loop-other-preserved c =
-    let frame = c.deref.ensures.value ∙ ap (λ (k : Config). k.frame) c.other.view_is in
-    let alike = subst (λ (f : List Tree). AreAlikeAnswer c.args.frame.now f false) frame (rw c.if-branch.false at c.in_ok-are_alike.ensures) in
-    taken_more (λ (ks : List Config). IsMatchAnswer c.args.frame.now ks false) c.args.others.now c.loop-other.other-index c.other-item.result c.other-item.is c.loop-other-test.true
-    (unmatched_by_more c.args.frame.now (take c.loop-other.other-index c.args.others.now) c.other-item.result c.loop-other.invariant alike)
+    let frame = ap (λ (k : Config). k.frame) c.other.view_is in
+    let alike = subst (λ (f : List Tree). AreAlikeAnswer c.args.theory.now c.args.frame.now f false) frame (rw c.if-branch.false at c.in_ok-are_alike.ensures) in
+    taken_more (λ (ks : List Config). IsMatchAnswer c.args.theory.now c.args.frame.now ks false) c.args.others.now c.loop-other.other-index c.other-item.result c.other-item.is c.loop-other-test.true
+    (unmatched_by_more c.args.theory.now c.args.frame.now (take c.loop-other.other-index c.args.others.now) c.other-item.result c.loop-other.invariant alike)
+
+pub returns-then-branch : goal.returns-then-branch
+returns-then-branch c =
+    let frame = ap (λ (k : Config). k.frame) c.other.view_is in
+    let alike = subst (λ (f : List Tree). AreAlikeAnswer c.args.theory.now c.args.frame.now f true) frame (rw c.if-branch.true at c.in_ok-are_alike.ensures) in
+    matched_by_one c.args.theory.now c.args.frame.now c.args.others.now c.other-item.result
+    (contains_item c.args.others.now c.loop-other.other-index c.other-item.result c.other-item.is c.loop-other-test.true) alike
 
 pub returns : goal.returns
 returns c =
-    taken_all (λ (ks : List Config). IsMatchAnswer c.args.frame.now ks false) c.args.others.now c.loop-other.other-index c.loop-other-test.false c.loop-other.invariant
+    taken_all (λ (ks : List Config). IsMatchAnswer c.args.theory.now c.args.frame.now ks false) c.args.others.now c.loop-other.other-index c.loop-other-test.false c.loop-other.invariant

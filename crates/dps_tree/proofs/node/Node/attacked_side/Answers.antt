@@ -1,5 +1,10 @@
 use Rattle.dps_tree.proofs.node.Node.attacked_side.Goals as goal
 
+pub returns-then-not-branch : goal.returns-then-not-branch
+returns-then-not-branch c =
+    let first = rw (c.deref.ensures.value, c.deref-2.ensures.value, c.if-not-branch.true) at c.in_ok-are_matched.ensures in
+    λ signature f g. first signature f g
+
 pub returns-then-not-branch-2 : goal.returns-then-not-branch-2
 returns-then-not-branch-2 c =
     let first = rw (c.deref.ensures.value, c.deref-2.ensures.value, c.if-not-branch.false) at c.in_ok-are_matched.ensures in

@@ -1,4 +1,4 @@
-use Rattle.std.proofs.Common.{◌≡◌, ◌<◌, length, arith, false, true, true≢false, sym}
+use Rattle.std.proofs.Common.{true≢false, sym}
 use Rattle.dps_tree.proofs.Holding.{no_items_left}
 use Rattle.dps_tree.proofs.Branching.{none_above, one_more_above, all_above}
 use Rattle.dps_tree.proofs.node.Node.children.Goals as goal
