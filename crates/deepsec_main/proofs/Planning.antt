@@ -4,12 +4,14 @@ use Rattle.std.specs.Prelude.{codes}
 use Rattle.std.proofs.lemmas.Option.{slice_get-map, slice_get_read, slice_get_past}
 use Rattle.std.specs.declared.alloc.Global.{Global}
 use Rattle.deepsec_main.specs.declared.command.Command.{Command}
-use Rattle.deepsec_main.specs.declared.command.Command.TheVariants.{Check}
-use Rattle.deepsec_main.specs.Words.{texts, word_at, IsOption, HasPlan, CanGoOn, IsFirstWrong}
-use Rattle.deepsec_main.specs.Answers.{ChecksWord}
+use Rattle.deepsec_main.specs.declared.command.Command.TheVariants.{Check, Theory}
+use Rattle.deepsec_main.specs.Words.{texts, word_at, IsOption, HasPlan, AsksOf, BeginsWith, CanGoOn, IsFirstWrong}
 
 some_file_is_none : ¬ IsOption (codes "F")
 some_file_is_none o = let e : ◌≡◌ {A = ℕ} 70 45 = (let f : codes "F" ≡ codes "--" ++ o.0 = o.1 in cc) in omega arith
+
+pub words_differ : codes "check" ≡ codes "theory" → ⊥
+words_differ e = let d : ◌≡◌ {A = ℕ} 99 116 = cc in omega arith
 
 -- words that can go on
 go_on_from_none : CanGoOn []
@@ -36,15 +38,50 @@ go_on_from_file w f e n = record {
   plan = (record { file = f; all = ap (λ x. x ∷ f ∷ []) e; no_option = n }, refl);
 }
 
--- what words with a plan are
-command_is : (w : List ℕ) (rest : List (List ℕ)) (command : Command) (numbers : List ℕ) → HasPlan (w ∷ rest) command numbers → w ≡ codes "check"
-command_is w rest Check numbers p = let e = p.0.all in cc
+go_on_from_theory : (w : List ℕ) → w ≡ codes "theory" → CanGoOn (w ∷ [])
+go_on_from_theory w e = record {
+  more = codes "F" ∷ [];
+  command = Theory;
+  numbers = 2 ∷ [];
+  plan = (record { file = codes "F"; all = ap (λ x. x ∷ codes "F" ∷ []) e }, refl);
+}
 
-one_file_is : (w : List ℕ) (rest : List (List ℕ)) (command : Command) (numbers : List ℕ) → HasPlan (w ∷ rest) command numbers → (f : List ℕ) × (rest ≡ f ∷ []) × ¬ IsOption f
-one_file_is w rest Check numbers p = let e = p.0.all in (p.0.file, (cc), p.0.no_option)
+go_on_from_theory_file : (w f : List ℕ) → w ≡ codes "theory" → CanGoOn (w ∷ f ∷ [])
+go_on_from_theory_file w f e = record { more = []; command = Theory; numbers = 2 ∷ []; plan = (record { file = f; all = ap (λ x. x ∷ f ∷ []) e }, refl) }
+
+-- what words with a plan are
+check_is : (w : List ℕ) (rest : List (List ℕ)) (numbers : List ℕ) → HasPlan (w ∷ rest) Check numbers → w ≡ codes "check"
+check_is w rest numbers p = let e = p.0.all in cc
+
+theory_is : (w : List ℕ) (rest : List (List ℕ)) (numbers : List ℕ) → HasPlan (w ∷ rest) Theory numbers → w ≡ codes "theory"
+theory_is w rest numbers p = let e = p.0.all in cc
+
+one_file_is : (w : List ℕ) (rest : List (List ℕ)) (command : Command) (numbers : List ℕ) → HasPlan (w ∷ rest) command numbers → (f : List ℕ) × (rest ≡ f ∷ [])
+one_file_is w rest Check numbers p = let e = p.0.all in (p.0.file, (cc))
+one_file_is w rest Theory numbers p = let e = p.0.all in (p.0.file, (cc))
+
+checked_file_is : (w : List ℕ) (rest : List (List ℕ)) (command : Command) (numbers : List ℕ) → w ≡ codes "check" → HasPlan (w ∷ rest) command numbers → (f : List ℕ) × (rest ≡ f ∷ []) × ¬ IsOption f
+checked_file_is w rest Check numbers e p = let d = p.0.all in (p.0.file, (cc), p.0.no_option)
+checked_file_is w rest Theory numbers e p = absurd (words_differ (let d : w ≡ codes "theory" = theory_is w rest numbers p in cc))
 
 nothing_asks : (command : Command) (numbers : List ℕ) → ¬ HasPlan [] command numbers
 nothing_asks Check numbers p = let e = p.0.all in cc
+nothing_asks Theory numbers p = let e = p.0.all in cc
+
+-- the first word
+
+pub begins : (ws : List (String Global)) (w : String Global) (word : List ℕ) → 1 ≤ length ws → w ≡ get_or ws 0 w → string_bytes w ≡ word → BeginsWith word (texts ws)
+begins [] w word l e k = absurd (omega arith)
+begins (v ∷ ws) w word l e k =
+    let same : string_bytes v ≡ word = subst (λ (x : String Global). string_bytes x ≡ word) e k in
+    record { rest = texts ws; all = ap (λ x. x ∷ texts ws) same }
+
+first_is : (word v : List ℕ) (vs : List (List ℕ)) → BeginsWith word (v ∷ vs) → v ≡ word
+first_is word v vs b = let e = b.all in cc
+
+pub never_empty : (ws : List (String Global)) (word : List ℕ) → length ws ≡ 0 → BeginsWith word (texts ws) → ⊥
+never_empty [] word l b = let e = b.all in cc
+never_empty (v ∷ ws) word l b = omega arith
 
 pub no_words : (ws : List (String Global)) → length ws ≡ 0 → IsFirstWrong (texts ws) 1
 no_words [] l = record {
@@ -57,34 +94,41 @@ no_words [] l = record {
 }
 no_words (w ∷ ws) l = absurd (omega arith)
 
-wrong_first : (w : List ℕ) (rest : List (List ℕ)) → w ≢ codes "check" → IsFirstWrong (w ∷ rest) 1
-wrong_first w rest n = record {
+wrong_first : (w : List ℕ) (rest : List (List ℕ)) → w ≢ codes "check" → w ≢ codes "theory" → IsFirstWrong (w ∷ rest) 1
+wrong_first w rest n m = record {
   before = 0;
   is_next = omega arith;
   within = omega arith;
   right = go_on_from_none;
-  wrong = λ h g. n (command_is w g.more g.command g.numbers g.plan);
-  no_plan = λ command numbers p. n (command_is w rest command numbers p);
+  wrong = λ h g. never g.more g.command g.numbers g.plan;
+  no_plan = never rest;
 }
+  where
+    never : (behind : List (List ℕ)) (command : Command) (numbers : List ℕ) → HasPlan (w ∷ behind) command numbers → ⊥
+    never behind Check numbers p = n (check_is w behind numbers p)
+    never behind Theory numbers p = m (theory_is w behind numbers p)
 
-pub wrong_command : (ws : List (String Global)) (w : String Global) → 1 ≤ length ws → w ≡ get_or ws 0 w → string_bytes w ≢ codes "check" → IsFirstWrong (texts ws) 1
-wrong_command [] w l e n = absurd (omega arith)
-wrong_command (v ∷ ws) w l e n = wrong_first (string_bytes v) (texts ws) (subst (λ (x : String Global). string_bytes x ≢ codes "check") e n)
+pub wrong_command : (ws : List (String Global)) (w : String Global) → 1 ≤ length ws → w ≡ get_or ws 0 w → string_bytes w ≢ codes "check" → string_bytes w ≢ codes "theory" → IsFirstWrong (texts ws) 1
+wrong_command [] w l e n m = absurd (omega arith)
+wrong_command (v ∷ ws) w l e n m =
+    wrong_first (string_bytes v) (texts ws) (subst (λ (x : String Global). string_bytes x ≢ codes "check") e n) (subst (λ (x : String Global). string_bytes x ≢ codes "theory") e m)
 
-alone_wrong : (w : List ℕ) → w ≡ codes "check" → IsFirstWrong (w ∷ []) 2
-alone_wrong w e = record {
+-- `check`
+
+alone_wrong : (w : List ℕ) → CanGoOn (w ∷ []) → IsFirstWrong (w ∷ []) 2
+alone_wrong w g = record {
   before = 1;
   is_next = omega arith;
   within = omega arith;
-  right = go_on_from_check w e;
+  right = g;
   wrong = λ h. absurd (omega arith);
-  no_plan = λ command numbers p. (let f = one_file_is w [] command numbers p in let g = f.1 in cc);
+  no_plan = λ command numbers p. (let f = one_file_is w [] command numbers p in let k = f.1 in cc);
 }
 
-pub no_file : (ws : List (String Global)) (w : String Global) → length ws ≡ 1 → w ≡ get_or ws 0 w → string_bytes w ≡ codes "check" → IsFirstWrong (texts ws) 2
-no_file [] w l e k = absurd (omega arith)
-no_file (v ∷ []) w l e k = alone_wrong (string_bytes v) (subst (λ (x : String Global). string_bytes x ≡ codes "check") e k)
-no_file (v ∷ u ∷ ws) w l e k = absurd (omega arith)
+pub no_file : (ws : List (String Global)) → length ws ≡ 1 → BeginsWith (codes "check") (texts ws) → IsFirstWrong (texts ws) 2
+no_file [] l b = absurd (omega arith)
+no_file (v ∷ []) l b = alone_wrong (string_bytes v) (go_on_from_check (string_bytes v) (first_is (codes "check") (string_bytes v) [] b))
+no_file (v ∷ u ∷ ws) l b = absurd (omega arith)
 
 option_wrong : (w f : List ℕ) (rest : List (List ℕ)) → w ≡ codes "check" → IsOption f → IsFirstWrong (w ∷ f ∷ rest) 2
 option_wrong w f rest e o = record {
@@ -98,40 +142,63 @@ option_wrong w f rest e o = record {
   where
     refused : (behind : List (List ℕ)) (command : Command) (numbers : List ℕ) (g : List ℕ) (more : List (List ℕ)) → behind ≡ f ∷ more → HasPlan (w ∷ behind) command numbers → ⊥
     refused behind command numbers g more i p =
-        let k = one_file_is w behind command numbers p in
+        let k = checked_file_is w behind command numbers e p in
         let same : f ≡ k.0 = (let a = k.1 in cc) in
         k.2 (subst IsOption same o)
 
-pub option_for_file : (ws : List (String Global)) (w f : String Global) → 2 ≤ length ws → w ≡ get_or ws 0 w → string_bytes w ≡ codes "check" → f ≡ get_or ws 1 f → IsOption (string_bytes f) → IsFirstWrong (texts ws) 2
-option_for_file [] w f l e k i o = absurd (omega arith)
-option_for_file (v ∷ []) w f l e k i o = absurd (omega arith)
-option_for_file (v ∷ u ∷ ws) w f l e k i o =
-    option_wrong (string_bytes v) (string_bytes u) (texts ws) (subst (λ (x : String Global). string_bytes x ≡ codes "check") e k) (subst (λ (x : String Global). IsOption (string_bytes x)) i o)
+pub option_for_file : (ws : List (String Global)) (f : String Global) → 2 ≤ length ws → BeginsWith (codes "check") (texts ws) → f ≡ get_or ws 1 f → IsOption (string_bytes f) → IsFirstWrong (texts ws) 2
+option_for_file [] f l b i o = absurd (omega arith)
+option_for_file (v ∷ []) f l b i o = absurd (omega arith)
+option_for_file (v ∷ u ∷ ws) f l b i o =
+    option_wrong (string_bytes v) (string_bytes u) (texts ws) (first_is (codes "check") (string_bytes v) (string_bytes u ∷ texts ws) b) (subst (λ (x : String Global). IsOption (string_bytes x)) i o)
 
-surplus_wrong : (w f g : List ℕ) (rest : List (List ℕ)) → w ≡ codes "check" → ¬ IsOption f → IsFirstWrong (w ∷ f ∷ g ∷ rest) 3
-surplus_wrong w f g rest e n = record {
+surplus_wrong : (w f g : List ℕ) (rest : List (List ℕ)) → CanGoOn (w ∷ f ∷ []) → IsFirstWrong (w ∷ f ∷ g ∷ rest) 3
+surplus_wrong w f g rest r = record {
   before = 2;
   is_next = omega arith;
   within = omega arith;
-  right = go_on_from_file w f e n;
+  right = r;
   wrong = λ h k. (let p = one_file_is w (f ∷ g ∷ k.more) k.command k.numbers k.plan in let q = p.1 in cc);
-  no_plan = λ command numbers p. (let q = one_file_is w (f ∷ g ∷ rest) command numbers p in let r = q.1 in cc);
+  no_plan = λ command numbers p. (let q = one_file_is w (f ∷ g ∷ rest) command numbers p in let k = q.1 in cc);
 }
 
-pub surplus : (ws : List (String Global)) (w f : String Global) → 3 ≤ length ws → w ≡ get_or ws 0 w → string_bytes w ≡ codes "check" → f ≡ get_or ws 1 f → ¬ IsOption (string_bytes f) → IsFirstWrong (texts ws) 3
-surplus [] w f l e k i o = absurd (omega arith)
-surplus (v ∷ []) w f l e k i o = absurd (omega arith)
-surplus (v ∷ u ∷ []) w f l e k i o = absurd (omega arith)
-surplus (v ∷ u ∷ t ∷ ws) w f l e k i o =
-    surplus_wrong (string_bytes v) (string_bytes u) (string_bytes t) (texts ws) (subst (λ (x : String Global). string_bytes x ≡ codes "check") e k) (subst (λ (x : String Global). ¬ IsOption (string_bytes x)) i o)
+pub surplus : (ws : List (String Global)) (f : String Global) → 3 ≤ length ws → BeginsWith (codes "check") (texts ws) → f ≡ get_or ws 1 f → ¬ IsOption (string_bytes f) → IsFirstWrong (texts ws) 3
+surplus [] f l b i o = absurd (omega arith)
+surplus (v ∷ []) f l b i o = absurd (omega arith)
+surplus (v ∷ u ∷ []) f l b i o = absurd (omega arith)
+surplus (v ∷ u ∷ t ∷ ws) f l b i o =
+    surplus_wrong (string_bytes v) (string_bytes u) (string_bytes t) (texts ws)
+    (go_on_from_file (string_bytes v) (string_bytes u) (first_is (codes "check") (string_bytes v) (string_bytes u ∷ string_bytes t ∷ texts ws) b) (subst (λ (x : String Global). ¬ IsOption (string_bytes x)) i o))
 
-pub asks : (ws : List (String Global)) (w f : String Global) → length ws ≡ 2 → w ≡ get_or ws 0 w → string_bytes w ≡ codes "check" → f ≡ get_or ws 1 f → ¬ IsOption (string_bytes f) → ChecksWord (texts ws) 2
-asks [] w f l e k i o = absurd (omega arith)
-asks (v ∷ []) w f l e k i o = absurd (omega arith)
-asks (v ∷ u ∷ []) w f l e k i o =
-    let c : string_bytes v ≡ codes "check" = subst (λ (x : String Global). string_bytes x ≡ codes "check") e k in
+pub asks : (ws : List (String Global)) (f : String Global) → length ws ≡ 2 → BeginsWith (codes "check") (texts ws) → f ≡ get_or ws 1 f → ¬ IsOption (string_bytes f) → AsksOf (texts ws) Check
+asks [] f l b i o = absurd (omega arith)
+asks (v ∷ []) f l b i o = absurd (omega arith)
+asks (v ∷ u ∷ []) f l b i o =
+    let c : string_bytes v ≡ codes "check" = first_is (codes "check") (string_bytes v) (string_bytes u ∷ []) b in
     (record { file = string_bytes u; all = ap (λ x. x ∷ string_bytes u ∷ []) c; no_option = subst (λ (x : String Global). ¬ IsOption (string_bytes x)) i o }, refl)
-asks (v ∷ u ∷ t ∷ ws) w f l e k i o = absurd (omega arith)
+asks (v ∷ u ∷ t ∷ ws) f l b i o = absurd (omega arith)
+
+-- `theory`
+
+pub no_theory_file : (ws : List (String Global)) → length ws ≡ 1 → BeginsWith (codes "theory") (texts ws) → IsFirstWrong (texts ws) 2
+no_theory_file [] l b = absurd (omega arith)
+no_theory_file (v ∷ []) l b = alone_wrong (string_bytes v) (go_on_from_theory (string_bytes v) (first_is (codes "theory") (string_bytes v) [] b))
+no_theory_file (v ∷ u ∷ ws) l b = absurd (omega arith)
+
+pub theory_surplus : (ws : List (String Global)) → 3 ≤ length ws → BeginsWith (codes "theory") (texts ws) → IsFirstWrong (texts ws) 3
+theory_surplus [] l b = absurd (omega arith)
+theory_surplus (v ∷ []) l b = absurd (omega arith)
+theory_surplus (v ∷ u ∷ []) l b = absurd (omega arith)
+theory_surplus (v ∷ u ∷ t ∷ ws) l b =
+    surplus_wrong (string_bytes v) (string_bytes u) (string_bytes t) (texts ws)
+    (go_on_from_theory_file (string_bytes v) (string_bytes u) (first_is (codes "theory") (string_bytes v) (string_bytes u ∷ string_bytes t ∷ texts ws) b))
+
+pub asks_for_theory : (ws : List (String Global)) → length ws ≡ 2 → BeginsWith (codes "theory") (texts ws) → AsksOf (texts ws) Theory
+asks_for_theory [] l b = absurd (omega arith)
+asks_for_theory (v ∷ []) l b = absurd (omega arith)
+asks_for_theory (v ∷ u ∷ []) l b =
+    (record { file = string_bytes u; all = ap (λ x. x ∷ string_bytes u ∷ []) (first_is (codes "theory") (string_bytes v) (string_bytes u ∷ []) b) }, refl)
+asks_for_theory (v ∷ u ∷ t ∷ ws) l b = absurd (omega arith)
 
 word_there : (words : List (String Global)) (n : ℕ) (word : String Global) → slice_get words n ≡ Some word → word_at (texts words) (suc n) ≡ string_bytes word
 word_there words n word e = ap (λ x. unwrap_or x []) (slice_get-map (λ w. string_bytes w) words n ∙ ap (λ x. option_map (λ w. string_bytes w) x) e)

@@ -2,7 +2,7 @@
 use Rattle.std.specs.Prelude.{ℕ, List, [], ◌∷◌, ◌++◌, codes, string_bytes}
 use Rattle.std.specs.Fmt.{decimal}
 use Rattle.deepsec_main.specs.declared.outcome.Outcome.{Outcome}
-use Rattle.deepsec_main.specs.declared.outcome.Outcome.TheVariants.{Equivalent, NotEquivalent, Refused, Stopped, NoMemory}
+use Rattle.deepsec_main.specs.declared.outcome.Outcome.TheVariants.{Equivalent, NotEquivalent, TheoryAccepted, Refused, Stopped, NoMemory}
 use Rattle.deepsec_main.specs.declared.outcome.StopName.{StopName}
 use Rattle.deepsec_main.specs.declared.outcome.StopName.TheVariants.{TooLong, OpenFault, ReadFault, WordsRefused}
 
@@ -24,10 +24,15 @@ place_line at column rest = codes "at: " ++ (decimal at ++ (codes ":" ++ (decima
 abbrev pub attack_lines : List ℕ → List ℕ
 attack_lines trace = line (codes "result") (codes "not equivalent") (line (codes "node") (codes "/") trace)
 
+-- accepted rules, and how many the text writes
+abbrev pub theory_lines : ℕ → List ℕ
+theory_lines rules = line (codes "result") (codes "theory accepted") (line (codes "rules") (decimal rules) [])
+
 -- the lines behind the first
 abbrev pub outcome_lines : Outcome → List ℕ
 outcome_lines Equivalent = line (codes "result") (codes "equivalent") []
 outcome_lines (NotEquivalent trace) = attack_lines (string_bytes trace)
+outcome_lines (TheoryAccepted rules) = theory_lines rules
 outcome_lines (Refused file at column cause) =
     line (codes "result") (codes "refused") (line (codes "file") (decimal file) (place_line at column (line (codes "cause") (string_bytes cause) [])))
 outcome_lines (Stopped name word) = line (codes "result") (stop_text name) (line (codes "word") (decimal word) [])
@@ -40,6 +45,9 @@ report_text outcome = codes "report 1" ++ (10 ∷ outcome_lines outcome)
 abbrev pub attack_report : List ℕ → List ℕ
 attack_report trace = codes "report 1" ++ (10 ∷ attack_lines trace)
 
+abbrev pub theory_report : ℕ → List ℕ
+theory_report rules = codes "report 1" ++ (10 ∷ theory_lines rules)
+
 abbrev pub stop_status : StopName → ℕ
 stop_status TooLong = 8
 stop_status OpenFault = 4
@@ -50,6 +58,7 @@ stop_status WordsRefused = 7
 abbrev pub status_of : Outcome → ℕ
 status_of Equivalent = 0
 status_of (NotEquivalent trace) = 1
+status_of (TheoryAccepted rules) = 0
 status_of (Refused file at column cause) = 3
 status_of (Stopped name word) = stop_status name
 status_of NoMemory = 6

@@ -2,7 +2,7 @@
 use Rattle.std.specs.Prelude.{◌≡◌, ℕ, zero, suc, ◌+◌, ◌<◌, ◌≤◌, List, [], ◌∷◌, ◌++◌, codes, take, length, String, string_bytes, map, unwrap_or, slice_get, ⊤}
 use Rattle.std.specs.declared.alloc.Global.{Global}
 use Rattle.deepsec_main.specs.declared.command.Command.{Command}
-use Rattle.deepsec_main.specs.declared.command.Command.TheVariants.{Check}
+use Rattle.deepsec_main.specs.declared.command.Command.TheVariants.{Check, Theory}
 use Rattle.deepsec_main.specs.declared.command.PlanRefusal.{PlanRefusal}
 use Rattle.deepsec_main.specs.declared.command.PlanRefusal.TheVariants.{Wrong, Memory}
 
@@ -24,9 +24,27 @@ pub record AsksToCheck (words : List (List ℕ)) : Type 0 where
   pub all : words ≡ codes "check" ∷ file ∷ []
   pub no_option : ¬ IsOption file
 
+-- `theory FILE`: a command without options takes any word as the name of its file
+pub record AsksForTheory (words : List (List ℕ)) : Type 0 where
+  pub file : List ℕ
+  pub all : words ≡ codes "theory" ∷ file ∷ []
+
+abbrev pub Asks : List (List ℕ) → Command → Type 0
+Asks words Check = AsksToCheck words
+Asks words Theory = AsksForTheory words
+
 -- the words ask for the command; the numbers, from 1, are those of the words that name files
 abbrev pub HasPlan : List (List ℕ) → Command → List ℕ → Type 0
-HasPlan words Check numbers = AsksToCheck words × (numbers ≡ 2 ∷ [])
+HasPlan words command numbers = Asks words command × (numbers ≡ 2 ∷ [])
+
+-- with the second word as the file
+abbrev pub AsksOf : List (List ℕ) → Command → Type 0
+AsksOf words command = HasPlan words command (2 ∷ [])
+
+-- this is the first word
+pub record BeginsWith (word : List ℕ) (words : List (List ℕ)) : Type 0 where
+  pub rest : List (List ℕ)
+  pub all : words ≡ word ∷ rest
 
 -- the words can go on to words with a plan
 pub record CanGoOn (front : List (List ℕ)) : Type 0 where

@@ -6,6 +6,8 @@ use thiserror::Error;
 pub enum Command {
     /// `check FILE`: whether the two processes of a file are trace equivalent.
     Check,
+    /// `theory FILE`: whether the rules of a file are accepted.
+    Theory,
 }
 
 /// A command, and the numbers, from 1, of the words that name its files.

@@ -1,4 +1,4 @@
-//! `deepsec`: checks whether the two processes of a file are trace equivalent.
+//! `deepsec`: checks whether the two processes of a file are trace equivalent, and whether its rules are accepted.
 #![tactic(auto)]
 
 mod command;

@@ -9,6 +9,10 @@ pub enum Outcome {
     NotEquivalent {
         trace: String,
     },
+    /// The rules of the file are accepted. It writes so many, without those of projections.
+    TheoryAccepted {
+        rules: u32,
+    },
     /// A file is refused, at this line and column, each counted from 1, for the cause with this text. The file is named by
     /// its word's number.
     Refused {

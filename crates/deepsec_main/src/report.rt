@@ -26,6 +26,7 @@ pub fn status(outcome: &Outcome) -> u8
     match outcome {
         Outcome::Equivalent => 0,
         Outcome::NotEquivalent { .. } => 1,
+        Outcome::TheoryAccepted { .. } => 0,
         Outcome::Refused { .. } => 3,
         Outcome::Stopped { name, .. } => status_of_stop(*name),
         Outcome::NoMemory => 6,
@@ -51,6 +52,9 @@ pub fn text(alloc: Global, outcome: &Outcome) -> Result<String, AllocError>
         Outcome::Equivalent => String::from_str(alloc, "report 1\nresult: equivalent\n"),
         Outcome::NotEquivalent { trace } => {
             format!(in alloc; "report 1\nresult: not equivalent\nnode: /\n{trace}")
+        }
+        Outcome::TheoryAccepted { rules } => {
+            format!(in alloc; "report 1\nresult: theory accepted\nrules: {rules}\n")
         }
         Outcome::Refused {
             file,

@@ -1,12 +1,12 @@
 //! The whole program, over the words, the files and the sink that it is given.
-ghost use Rattle.std.specs.Prelude.{◌≡◌, ◌⊎◌, ℕ, List};
+ghost use Rattle.std.specs.Prelude.{◌≡◌, ◌⊎◌, ℕ, List, IfOk, IfErr};
 ghost use Rattle.std.specs.Io.KnownBytes.{append_known};
 ghost use Rattle.dps_io.specs.Counts.{Rose};
-ghost use Rattle.dps_judge.specs.Meaning.{MeansEquivalent};
+ghost use Rattle.dps_judge.specs.Meaning.{MeansTheory, MeansEquivalent};
 ghost use Rattle.dps_judge.specs.Judgement.{IsAttacked};
 ghost use Rattle.deepsec_main.specs.Words.{texts, IsFirstWrong};
-ghost use Rattle.deepsec_main.specs.Reports.{report_text, attack_report};
-ghost use Rattle.deepsec_main.specs.Answers.{ChecksWord, HasReadText, IsTooLong, IsRefusedSomewhere, IsCaused, IsReported, IsComplete};
+ghost use Rattle.deepsec_main.specs.Reports.{report_text, attack_report, theory_report};
+ghost use Rattle.deepsec_main.specs.Answers.{AsksOfWord, NamesWord, IsRead, HasReadText, IsTooLong, IsRefusedText, IsCaused, IsReported, IsComplete};
 ghost use Rattle.deepsec_main.specs.declared.outcome.Outcome.{Outcome as AnOutcome};
 
 use crate::command::{Command, PlanRefusal};
@@ -15,9 +15,11 @@ use crate::report::{MEMORY_TEXT, status, text};
 use crate::words::{plan, word_of};
 use dps_io::{Files, ReadRefusal, Sink, read_all, write_all};
 use dps_judge::laws::{
-    no_text_is_equivalent_and_attacked, no_text_is_refused_and_judged, no_text_means_two_problems,
+    no_text_has_theory_and_none, no_text_is_equivalent_and_attacked, no_text_is_refused_and_judged,
+    no_text_means_two_problems,
 };
-use dps_judge::{Verdict, judge};
+use dps_judge::{TheoryVerdict, Verdict, judge, judge_theory};
+use dps_lex::Place;
 use std::alloc::{AllocError, Global};
 
 /// The most bytes of a file.
@@ -32,29 +34,69 @@ pub struct Status {
     pub code: u8,
 }
 
-/// What checking the file of this word's number comes to.
-fn check<F: Files>(alloc: Global, words: &[String], file: u32, files: &mut F) -> Outcome
-    requires { ChecksWord (texts words.now) file }
-    ensures { IsCaused F.told F.taken F.open_faults F.read_faults (texts words.now) files.old files.new result }
+/// The bytes of the file of this word's number, or what stops the run.
+fn file_bytes<F: Files>(
+    alloc: Global,
+    words: &[String],
+    file: u32,
+    files: &mut F,
+) -> Result<Vec<u8>, Outcome>
+    requires { NamesWord (texts words.now) file }
+    ensures read { IfOk result (λ bytes. IsRead (F.told files.old) (F.taken files.new) (texts words.now) file bytes.items) }
+    ensures stopped { IfErr result (IsCaused F.told F.taken F.open_faults F.read_faults (texts words.now) files.old files.new) }
 {
     let stopped = |name: StopName| Outcome::Stopped { name, word: file };
-    let bytes = match read_all(alloc, files, word_of(words, file), LIMIT) {
-        Err(ReadRefusal::OpenFault) => return stopped(StopName::OpenFault),
-        Err(ReadRefusal::ReadFault) => return stopped(StopName::ReadFault),
-        Err(ReadRefusal::TooLong) => return stopped(StopName::TooLong),
-        Err(ReadRefusal::Memory) => return Outcome::NoMemory,
+    match read_all(alloc, files, word_of(words, file), LIMIT) {
+        Err(ReadRefusal::OpenFault) => Err(stopped(StopName::OpenFault)),
+        Err(ReadRefusal::ReadFault) => Err(stopped(StopName::ReadFault)),
+        Err(ReadRefusal::TooLong) => Err(stopped(StopName::TooLong)),
+        Err(ReadRefusal::Memory) => Err(Outcome::NoMemory),
+        Ok(bytes) => Ok(bytes),
+    }
+}
+
+/// The file of this word's number is refused.
+fn refused(file: u32, place: Place, cause: String) -> Outcome
+    ensures { result ≡ Outcome.Refused file place.line place.column cause }
+{
+    Outcome::Refused {
+        file,
+        line: place.line,
+        column: place.column,
+        cause,
+    }
+}
+
+/// What checking the file of this word's number comes to.
+fn check<F: Files>(alloc: Global, words: &[String], file: u32, files: &mut F) -> Outcome
+    requires { AsksOfWord (texts words.now) Command.Check file }
+    ensures { IsCaused F.told F.taken F.open_faults F.read_faults (texts words.now) files.old files.new result }
+{
+    let bytes = match file_bytes(alloc, words, file, files) {
+        Err(outcome) => return outcome,
         Ok(bytes) => bytes,
     };
     match judge(alloc, &bytes) {
         Err(AllocError) => Outcome::NoMemory,
         Ok(Verdict::Equivalent) => Outcome::Equivalent,
         Ok(Verdict::NotEquivalent { trace }) => Outcome::NotEquivalent { trace },
-        Ok(Verdict::Refused { place, cause }) => Outcome::Refused {
-            file,
-            line: place.line,
-            column: place.column,
-            cause,
-        },
+        Ok(Verdict::Refused { place, cause }) => refused(file, place, cause),
+    }
+}
+
+/// What the theory of the file of this word's number comes to.
+fn theory<F: Files>(alloc: Global, words: &[String], file: u32, files: &mut F) -> Outcome
+    requires { AsksOfWord (texts words.now) Command.Theory file }
+    ensures { IsCaused F.told F.taken F.open_faults F.read_faults (texts words.now) files.old files.new result }
+{
+    let bytes = match file_bytes(alloc, words, file, files) {
+        Err(outcome) => return outcome,
+        Ok(bytes) => bytes,
+    };
+    match judge_theory(alloc, &bytes) {
+        Err(AllocError) => Outcome::NoMemory,
+        Ok(TheoryVerdict::Accepted { rules }) => Outcome::TheoryAccepted { rules },
+        Ok(TheoryVerdict::Refused { place, cause }) => refused(file, place, cause),
     }
 }
 
@@ -70,6 +112,7 @@ fn outcome<F: Files>(alloc: Global, words: &[String], files: &mut F) -> Outcome
         Err(PlanRefusal::Memory) => Outcome::NoMemory,
         Ok(plan) => match plan.command {
             Command::Check => check(alloc, words, plan.words[0], files),
+            Command::Theory => theory(alloc, words, plan.words[0], files),
         },
     }
 }
@@ -111,15 +154,22 @@ pub fn run_one<F: Files, W: Sink>(
     files: &mut F,
     sink: &mut W,
 ) -> Status
-    // The headline. Equivalent: the text of the file means a problem, and its two processes are trace equivalent.
-    ensures equivalent { result.code ≡ 0 → (file : ℕ) × HasReadText (F.told files.old) (F.taken files.new) (texts words.now) file MeansEquivalent }
+    // The headline. `check` says equivalent: the text of the file means a problem, and its two processes are trace
+    // equivalent.
+    ensures equivalent { (file : ℕ) → AsksOfWord (texts words.now) Command.Check file → result.code ≡ 0
+        → HasReadText (F.told files.old) (F.taken files.new) (texts words.now) Command.Check file MeansEquivalent }
     // Not equivalent: it means a problem with an attack, and the trace of the attack is what is printed.
     ensures not_equivalent { result.code ≡ 1 → (file : ℕ) × (trace : List ℕ)
-        × HasReadText (F.told files.old) (F.taken files.new) (texts words.now) file (λ bytes. IsAttacked bytes trace)
+        × HasReadText (F.told files.old) (F.taken files.new) (texts words.now) Command.Check file (λ bytes. IsAttacked bytes trace)
         × (W.written sink.new ≡ append_known (W.written sink.old) (attack_report trace)) }
 
+    // `theory` says accepted: the rules of the text are accepted, and their number is printed.
+    ensures theory_accepted { (file : ℕ) → AsksOfWord (texts words.now) Command.Theory file → result.code ≡ 0
+        → (rules : ℕ) × HasReadText (F.told files.old) (F.taken files.new) (texts words.now) Command.Theory file (λ bytes. MeansTheory bytes rules)
+        × (W.written sink.new ≡ append_known (W.written sink.old) (theory_report rules)) }
+
     // Each other status comes only from its cause.
-    ensures refused { result.code ≡ 3 → (file : ℕ) × HasReadText (F.told files.old) (F.taken files.new) (texts words.now) file IsRefusedSomewhere }
+    ensures refused { result.code ≡ 3 → (file : ℕ) × IsRefusedText (F.told files.old) (F.taken files.new) (texts words.now) file }
     ensures file_fault { result.code ≡ 4 → Rose (F.open_faults files.old) (F.open_faults files.new) ⊎ Rose (F.read_faults files.old) (F.read_faults files.new) }
     ensures write_fault { result.code ≡ 5 → Rose (W.faults sink.old) (W.faults sink.new) }
     ensures words_refused { result.code ≡ 7 → (wrong : ℕ) × IsFirstWrong (texts words.now) wrong }
@@ -133,6 +183,7 @@ pub fn run_one<F: Files, W: Sink>(
     ensures complete { IsComplete F.told F.open_faults F.read_faults W.faults (texts words.now) files.old files.new sink.old sink.new result.code }
 {
     no_text_means_two_problems();
+    no_text_has_theory_and_none();
     no_text_is_refused_and_judged();
     no_text_is_equivalent_and_attacked();
     let reached = outcome(alloc, words, files);

@@ -163,6 +163,27 @@ fn words_and_faults_have_their_reports(rt: HostRuntime) -> Result<(), Fail> {
             7,
             "report 1\nresult: words refused\nword: 3\n",
         ),
+        (
+            ["theory"].as_slice(),
+            [].as_slice(),
+            [].as_slice(),
+            7,
+            "report 1\nresult: words refused\nword: 2\n",
+        ),
+        (
+            ["theory", "F", "G"].as_slice(),
+            [].as_slice(),
+            [].as_slice(),
+            7,
+            "report 1\nresult: words refused\nword: 3\n",
+        ),
+        (
+            ["theory", "--steps"].as_slice(),
+            [].as_slice(),
+            [].as_slice(),
+            4,
+            "report 1\nresult: open fault\nword: 2\n",
+        ),
     ] {
         let (got, wrote) = run(
             rt.alloc(),
@@ -172,6 +193,101 @@ fn words_and_faults_have_their_reports(rt: HostRuntime) -> Result<(), Fail> {
             bad_writes,
         )?;
         assert_eq!(rt; got, code, "for {report}");
+        assert_eq!(rt; wrote.as_slice(), report.as_bytes());
+    }
+    Ok(())
+}
+
+#[test]
+fn rules_have_their_reports(rt: HostRuntime) -> Result<(), Fail> {
+    for (rules, code, lines) in [
+        ("", 0, "result: theory accepted\nrules: 0\n"),
+        (
+            "fun senc/2.\nreduc sdec(senc(x,y),y) -> x.\n",
+            0,
+            "result: theory accepted\nrules: 1\n",
+        ),
+        (
+            "fun f/1.\nreduc f(x) -> x.\n",
+            3,
+            "result: refused\nfile: 2\nat: 3:7\ncause: rule 1: left root is a constructor\n",
+        ),
+        (
+            "reduc h(x) -> x; g(h(x)) -> x.\n",
+            3,
+            "result: refused\nfile: 2\nat: 2:18\ncause: rule 2: destructor inside an argument\n",
+        ),
+        (
+            "reduc g(x,y) -> x;\nh(x) -> g(x,x).\n",
+            3,
+            "result: refused\nfile: 2\nat: 3:1\ncause: rule 2: destructor on the right\n",
+        ),
+        (
+            "fun f/1.\nreduc g(f(x)) -> f(f(x)).\n",
+            3,
+            "result: refused\nfile: 2\nat: 3:7\ncause: rule 1: right side is no strict subterm and not ground\n",
+        ),
+        (
+            "fun f/1.\nreduc g(f(x)) -> x.\nreduc g(f(a)) -> b.\n",
+            3,
+            "result: refused\nfile: 2\nat: 4:7\ncause: overlap of rules 1 and 2 under 1.x=a\n",
+        ),
+        (
+            "fun f/1.\nreduc g(f(x),y) -> x; g(x,f(z)) -> z.\n",
+            3,
+            "result: refused\nfile: 2\nat: 3:23\ncause: overlap of rules 1 and 2 under 1.y=f(2.z), 2.x=f(1.x)\n",
+        ),
+        (
+            "reduc g(a,(x,y)) -> a; g(a,x) -> b.\n",
+            3,
+            "result: refused\nfile: 2\nat: 2:24\ncause: overlap of rules 1 and 2 under 2.x=(1.x,1.y)\n",
+        ),
+        (
+            "reduc g(a) -> a; g(a) -> b.\n",
+            3,
+            "result: refused\nfile: 2\nat: 2:18\ncause: overlap of rules 1 and 2 under nothing\n",
+        ),
+    ] {
+        let alloc = rt.alloc();
+        let text = format!(in alloc; "const a, b.\n{rules}{SMALLEST}")?;
+        let report = format!(in alloc; "report 1\n{lines}")?;
+        let (got, wrote) = run(alloc, &["theory", "F"], text.as_bytes(), &[], &[])?;
+        assert_eq!(rt; got, code, "at {rules}");
+        assert_eq!(rt; wrote.as_slice(), report.as_bytes());
+        // `check` refuses the same.
+        if code == 3 {
+            let (got, wrote) = run(alloc, &["check", "F"], text.as_bytes(), &[], &[])?;
+            assert_eq!(rt; got, code);
+            assert_eq!(rt; wrote.as_slice(), report.as_bytes());
+        }
+    }
+    Ok(())
+}
+
+#[test]
+fn phases_come_in_their_order(rt: HostRuntime) -> Result<(), Fail> {
+    for (text, cause) in [
+        (
+            "reduc f(x) -> y.\nquery trace_equiv(P,0).\n",
+            "at: 2:19\ncause: unknown name",
+        ),
+        (
+            "fun f/1. reduc f(x) -> x.\nquery trace_equiv(!^64 !^64 !^64 0,0).\n",
+            "at: 1:16\ncause: rule 1: left root is a constructor",
+        ),
+        (
+            "reduc f(x) -> x.\nquery trace_equiv(!^64 !^64 !^64 0,0).\n",
+            "at: 2:19\ncause: too large",
+        ),
+        (
+            "reduc f(x) -> x.\nquery trace_equiv(0,0).\n",
+            "at: 1:1\ncause: not built",
+        ),
+    ] {
+        let alloc = rt.alloc();
+        let (got, wrote) = run(alloc, &["check", "F"], text.as_bytes(), &[], &[])?;
+        let report = format!(in alloc; "report 1\nresult: refused\nfile: 2\n{cause}\n")?;
+        assert_eq!(rt; got, 3);
         assert_eq!(rt; wrote.as_slice(), report.as_bytes());
     }
     Ok(())

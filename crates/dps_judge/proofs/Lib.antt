@@ -10,3 +10,4 @@ pub mod OneMeaning
 pub mod SomeMeaning
 pub mod Answering
 pub mod Lines
+pub mod LawfulMeanings

@@ -1,5 +1,5 @@
 -- A text means at most one thing.
-use Rattle.std.proofs.Common.{◌≡◌, ℕ, List, [], ◌∷◌, Option, Some, None, refl, sym, ap, subst, ◌∙◌}
+use Rattle.std.proofs.Common.{◌≡◌, ℕ, List, [], ◌∷◌, length, Option, Some, None, refl, sym, ap, subst, ◌∙◌}
 use Rattle.std.specs.List.{All}
 use Rattle.std.proofs.lemmas.List.Elements.{All-head, All-tail}
 use Rattle.dps_lex.specs.declared.vocabulary.Place.{Place}
@@ -18,11 +18,14 @@ use Rattle.dps_names.specs.Program.{Program}
 use Rattle.dps_names.specs.Outcome.{done, faulty}
 use Rattle.dps_names.specs.Declarations.{Known, names_of}
 use Rattle.dps_elab.specs.declared.fault.ExpansionCause.{ExpansionCause}
+use Rattle.dps_theory.specs.Theory.{IsAccepted}
 use Rattle.dps_elab.specs.Meaning.{Expanded, expanded, sides, refused}
-use Rattle.dps_judge.specs.Meaning.{IsDeclared, Says, Means, IsBuilt, theory_of}
-use Rattle.dps_judge.specs.Judgement.{IsRefused, unread, misnamed, not_written, unbuilt}
+use Rattle.dps_elab.specs.Rules.{theory_of}
+use Rattle.dps_elab.specs.Laws.{FlawedProgramsAreNotAccepted}
+use Rattle.dps_judge.specs.Meaning.{IsDeclared, Says, MeansTheory, Means, IsBuilt}
+use Rattle.dps_judge.specs.Judgement.{unread, misnamed, flawed, untheoried, not_written, unbuilt}
 use Rattle.dps_judge.specs.Unbuilt.{first_unbuilt}
-use Rattle.dps_judge.specs.LawsOfTexts.{NoTextSaysTwoPrograms, NoTextMeansTwoProblems, NoTextIsRefusedAndJudged}
+use Rattle.dps_judge.specs.LawsOfTexts.{NoTextSaysTwoPrograms, NoTextMeansTwoProblems, NoTextHasTheoryAndNone, NoTextIsRefusedAndJudged}
 
 -- a declaration is its tree and its keyword
 abbrev pub rebuilt : TokenKind → Derivation → Decl
@@ -105,14 +108,25 @@ one_problem programs = λ bytes problem other a b.
 some_or_none : (place : Place) (o x : Option Place) → o ≡ Some place → x ≡ None → o ≡ x → ⊥
 some_or_none place o x e f g = cc
 
-pub not_refused : NoTextHasTwoReadings → NoTokensHaveTwoTrees → NoTextIsFileAndHasFault → NoTextIsRefusedAndJudged
-not_refused readings trees faults = λ bytes place cause problem r means built.
-    elim r [
-      | unread fault first e f ↦ faults bytes (trees_of built.decls) fault built.text.tree first
+pub theory_or_none : NoTextHasTwoReadings → NoTokensHaveTwoTrees → NoTextIsFileAndHasFault → FlawedProgramsAreNotAccepted → NoTextHasTheoryAndNone
+theory_or_none readings trees faults flaws = λ bytes place cause rules h m.
+    elim h [
+      | unread fault first e f ↦ faults bytes (trees_of m.says.decls) fault m.says.text.tree first
       | misnamed decls fault d named e f ↦
-          not_both means.program fault (names_of decls) (names_of means.says.decls) named means.says.named (ap names_of (one_text readings trees bytes decls means.says.decls d means.says.text))
-      | not_written program why said e f ↦
+          not_both m.program fault (names_of decls) (names_of m.says.decls) named m.says.named (ap names_of (one_text readings trees bytes decls m.says.decls d m.says.text))
+      | flawed program flaw said f e ↦
+          flaws program place flaw f (subst (λ p. IsAccepted (theory_of p)) (one_program readings trees bytes m.program program m.says said) m.accepted)
+    ]
+
+pub has_theory : (bytes : List ℕ) (problem : Problem) (means : Means bytes problem) → MeansTheory bytes (length means.program.rules)
+has_theory bytes problem means = record { program = means.program; says = means.says; accepted = subst IsAccepted means.theory means.accepted; counted = refl }
+
+pub not_refused : NoTextHasTwoReadings → NoTokensHaveTwoTrees → NoTextHasTheoryAndNone → NoTextIsRefusedAndJudged
+not_refused readings trees theories = λ bytes place cause problem r means built.
+    elim r [
+      | untheoried h ↦ theories bytes place cause (length means.program.rules) h (has_theory bytes problem means)
+      | not_written program why said accepted e f ↦
           not_written_twice problem.left problem.right place why (expanded means.program) (expanded program) means.written e (ap expanded (one_program readings trees bytes means.program program means.says said))
-      | unbuilt program said left right e f g ↦
+      | unbuilt program said accepted left right e f g ↦
           some_or_none place (first_unbuilt said.decls) (first_unbuilt built.decls) f built.built (ap first_unbuilt (one_text readings trees bytes said.decls built.decls said.text built.text))
     ]

@@ -13,7 +13,7 @@ use Rattle.dps_names.specs.Program.{Program}
 use Rattle.dps_names.specs.Scopes.{is_word}
 use Rattle.std.specs.List.{flat_map, range_with_len}
 use Rattle.dps_theory.specs.Projections.{rules_for, projections_of, projections}
-use Rattle.dps_judge.specs.Meaning.{theory_of}
+use Rattle.dps_elab.specs.Rules.{theory_of}
 use Rattle.dps_judge.proofs.PlainPrograms.{IsPlainSymbol, IsPlainProgram}
 
 position_none : {X : Type 0} (p : X → Bool) (xs : List X) → All (λ x. p x ≡ false) xs → position p xs ≡ None

@@ -1,7 +1,8 @@
 -- Each text means something, or is refused.
-use Rattle.std.proofs.Common.{◌≡◌, ◌⊎◌, ℕ, false, List, [], ◌∷◌, ◌++◌, Option, Some, None, refl, sym, ap, subst, ◌∙◌, inl, inr}
+use Rattle.std.proofs.Common.{◌≡◌, ◌⊎◌, ℕ, ◌≤◌, length, false, List, [], ◌∷◌, ◌++◌, Option, Some, None, refl, sym, ap, subst, ◌∙◌, inl, inr}
 use denote.Enum.Bare.{sameb}
 use Rattle.std.specs.List.{All}
+use Rattle.std.specs.Prelude.{map}
 use Rattle.std.proofs.lemmas.List.Elements.{All-nil, All-cons}
 use Rattle.dps_lex.specs.contracts.vocabulary.TokenKind.{the_type as kinds}
 use Rattle.dps_lex.specs.declared.vocabulary.Place.{Place}
@@ -20,20 +21,25 @@ use Rattle.dps_syntax.specs.Tree.{Derivation, Parts, none, token, inner as withi
 use Rattle.dps_syntax.specs.Grammar.{Derives, done as nothing, sign, inner, taken, left, sign_of}
 use Rattle.dps_syntax.specs.Files.{tree_of, first_kind, trees_of, HasItsKeyword}
 use Rattle.dps_syntax.specs.LawsOfFiles.{IsTreeOfText, EachTextIsFileOrHasFault}
-use Rattle.dps_theory.proofs.Symbols.{unruled_is_kept}
 use Rattle.dps_terms.specs.Signature.{shapes}
+use Rattle.dps_theory.specs.Theory.{IsAccepted}
+use Rattle.dps_theory.specs.Laws.{AcceptedRulesJoinProjections}
+use Rattle.dps_theory.proofs.Symbols.{unruled_is_kept}
 use Rattle.dps_process.specs.Process.{Process}
 use Rattle.dps_process.specs.Problem.{Problem}
 use Rattle.dps_names.specs.declared.fault.NameFault.{NameFault}
-use Rattle.dps_names.specs.Program.{Program}
+use Rattle.dps_names.specs.Program.{WrittenRule, Program}
 use Rattle.dps_names.specs.Outcome.{done, faulty}
 use Rattle.dps_names.specs.Declarations.{Known, names_of}
+use Rattle.dps_names.specs.Laws.{RulesAreCheckable}
 use Rattle.dps_elab.specs.Meaning.{Expanded, expanded, sides, refused}
-use Rattle.dps_judge.specs.Causes.{name_cause_text, expansion_cause_text, not_built}
+use Rattle.dps_elab.specs.Rules.{Flaw, IsFlawed, rules_of, theory_of}
+use Rattle.dps_elab.specs.Laws.{FaultyProgramsAreFlawed}
+use Rattle.dps_judge.specs.Causes.{name_cause_text, flaw_text, expansion_cause_text, not_built}
 use Rattle.dps_judge.specs.Meaning.{IsDeclared, Says, Means, IsBuilt}
-use Rattle.dps_judge.specs.Judgement.{IsRefused, unread, misnamed, not_written, unbuilt}
+use Rattle.dps_judge.specs.Judgement.{IsRefused, unread, misnamed, flawed, untheoried, not_written, unbuilt}
 use Rattle.dps_judge.specs.Unbuilt.{first_unbuilt}
-use Rattle.dps_judge.specs.LawsOfTexts.{problem_over, EachTextIsRefusedOrJudged}
+use Rattle.dps_judge.specs.LawsOfTexts.{problem_over, AreRulesDecided, EachTextIsRefusedOrJudged}
 use Rattle.dps_judge.proofs.Rows.{IsOf}
 use Rattle.dps_judge.proofs.Fitting.{Fits, fits, kind_is}
 use Rattle.dps_judge.proofs.PlainPrograms.{file_plain}
@@ -111,36 +117,58 @@ all_made (taken (inner {inside} {parts} {after} items one d rest)) =
 abbrev IsDecided : List ℕ → Type 0
 IsDecided bytes = ((place : Place) × ((cause : List ℕ) × IsRefused bytes place cause)) ⊎ ((problem : Problem) × Means bytes problem × IsBuilt bytes)
 
-decided_built : (bytes : List ℕ) (program : Program) (said : Says bytes program) (l r : Process) → expanded program ≡ sides l r → (o : Option Place) → first_unbuilt said.decls ≡ o → IsDecided bytes
-decided_built bytes program said l r written (Some place) e = inl (place, (not_built, unbuilt program said l r written e refl))
-decided_built bytes program said l r written None e =
+decided_built : (bytes : List ℕ) (program : Program) (said : Says bytes program) → IsAccepted (theory_of program) → (l r : Process) → expanded program ≡ sides l r → (o : Option Place) → first_unbuilt said.decls ≡ o → IsDecided bytes
+decided_built bytes program said a l r written (Some place) e = inl (place, (not_built, unbuilt program said a l r written e refl))
+decided_built bytes program said a l r written None e =
     let plain = file_plain said.decls program said.text.tree.derived said.text.keywords e said.named in
+    let same = unruled program plain in
     inr (
       problem_over program l r,
       record {
         program = program;
         says = said;
         signature = refl;
-        theory = sym (unruled program plain);
-        accepted = (unruled_is_kept (shapes program.signature)).accepted;
+        theory = sym same;
+        accepted = subst IsAccepted same a;
         written = written;
       },
       record { decls = said.decls; text = said.text; built = e },
     )
 
-decided_written : (bytes : List ℕ) (program : Program) → Says bytes program → (o : Expanded) → expanded program ≡ o → IsDecided bytes
-decided_written bytes program said (refused place why) e = inl (place, (expansion_cause_text why, not_written program why said e refl))
-decided_written bytes program said (sides l r) e = decided_built bytes program said l r e (first_unbuilt said.decls) refl
+decided_written : (bytes : List ℕ) (program : Program) → Says bytes program → IsAccepted (theory_of program) → (o : Expanded) → expanded program ≡ o → IsDecided bytes
+decided_written bytes program said a (refused place why) e = inl (place, (expansion_cause_text why, not_written program why said a e refl))
+decided_written bytes program said a (sides l r) e = decided_built bytes program said a l r e (first_unbuilt said.decls) refl
 
-decided_named : (bytes : List ℕ) (decls : List Decl) → IsDeclared bytes decls → (o : Known) → names_of decls ≡ o → IsDecided bytes
-decided_named bytes decls d (faulty fault) e = inl (fault.place, (name_cause_text fault.cause, misnamed decls fault d e refl refl))
-decided_named bytes decls d (done u program) e = decided_written bytes program (record { decls = decls; text = d; named = e }) (expanded program) refl
+-- the rules of a program are accepted, or have a first flaw
 
-pub decided : EachTextIsFileOrHasFault → EachTextIsRefusedOrJudged
-decided each = λ bytes.
+module _ (checkable : RulesAreCheckable) (join : AcceptedRulesJoinProjections) (flaws : FaultyProgramsAreFlawed) (bytes : List ℕ) (short : length bytes ≤ 1048576) (decides : (program : Program) → Says bytes program → AreRulesDecided program) where
+  accepted_own : (program : Program) → Says bytes program → IsAccepted (record { shapes = shapes program.signature; rules = rules_of program }) → IsDecided bytes
+  accepted_own program said own =
+      decided_written bytes program said (join program.signature (rules_of program) (checkable bytes said.decls program short said.text.tree said.named) own).accepted (expanded program) refl
+
+  without_rules : (program : Program) → program.rules ≡ [] → IsAccepted (record { shapes = shapes program.signature; rules = rules_of program })
+  without_rules program e =
+      subst (λ (rs : List WrittenRule). IsAccepted (record { shapes = shapes program.signature; rules = map (λ r. r.rule) rs })) (sym e) (unruled_is_kept (shapes program.signature)).accepted
+
+  decided_ruled : (program : Program) → Says bytes program → IsDecided bytes
+  decided_ruled program said =
+      elim (decides program said) [
+        | inl empty ↦ accepted_own program said (without_rules program empty)
+        | inr some ↦ elim some [
+          | inl own ↦ accepted_own program said own
+          | inr fault ↦ let f = flaws program fault in inl (f.0, (flaw_text f.1.0, untheoried (flawed program f.1.0 said f.1.1 refl)))
+        ]
+      ]
+
+  decided_named : (decls : List Decl) → IsDeclared bytes decls → (o : Known) → names_of decls ≡ o → IsDecided bytes
+  decided_named decls d (faulty fault) e = inl (fault.place, (name_cause_text fault.cause, untheoried (misnamed decls fault d e refl refl)))
+  decided_named decls d (done u program) e = decided_ruled program (record { decls = decls; text = d; named = e })
+
+pub decided : EachTextIsFileOrHasFault → RulesAreCheckable → AcceptedRulesJoinProjections → FaultyProgramsAreFlawed → EachTextIsRefusedOrJudged
+decided each checkable join flaws = λ bytes short decides.
     elim (each bytes) [
       | inl (trees, t) ↦
           let m = all_made t.derived in
-          decided_named bytes m.decls (record { tree = subst (IsTreeOfText bytes) (sym m.same) t; keywords = m.keywords }) (names_of m.decls) refl
-      | inr (fault, first) ↦ inl (record { line = fault.line; column = fault.column }, (fault_words fault.kind, unread fault first refl refl))
+          decided_named checkable join flaws bytes short decides m.decls (record { tree = subst (IsTreeOfText bytes) (sym m.same) t; keywords = m.keywords }) (names_of m.decls) refl
+      | inr (fault, first) ↦ inl (record { line = fault.line; column = fault.column }, (fault_words fault.kind, untheoried (unread fault first refl refl)))
     ]

@@ -3,4 +3,5 @@ pub mod Causes
 pub mod Unbuilt
 pub mod Meaning
 pub mod Judgement
+pub mod Ruling
 pub mod LawsOfTexts

@@ -1,8 +1,6 @@
 -- The problem that a text means.
-use Rattle.std.specs.Prelude.{◌≡◌, ℕ, List, ◌++◌, map, None, All}
-use Rattle.dps_terms.specs.Signature.{shapes}
-use Rattle.dps_theory.specs.Theory.{Theory, IsAccepted}
-use Rattle.dps_theory.specs.Projections.{projections}
+use Rattle.std.specs.Prelude.{◌≡◌, ℕ, List, length, None, All}
+use Rattle.dps_theory.specs.Theory.{IsAccepted}
 use Rattle.dps_process.specs.Problem.{Problem}
 use Rattle.dps_process.specs.Traces.{IsEquivalent}
 use Rattle.dps_syntax.specs.declared.tree.Decl.{Decl}
@@ -11,12 +9,9 @@ use Rattle.dps_syntax.specs.LawsOfFiles.{IsTreeOfText}
 use Rattle.dps_names.specs.Program.{Program}
 use Rattle.dps_names.specs.Outcome.{done}
 use Rattle.dps_names.specs.Declarations.{names_of}
+use Rattle.dps_elab.specs.Rules.{theory_of}
 use Rattle.dps_elab.specs.Meaning.{expanded, sides}
 use Rattle.dps_judge.specs.Unbuilt.{first_unbuilt}
-
--- the projections, and the rules of the text
-abbrev pub theory_of : Program → Theory
-theory_of program = record { shapes = shapes program.signature; rules = projections program.signature ++ map (λ r. r.rule) program.rules }
 
 -- The text is a file with these declarations.
 pub record IsDeclared (bytes : List ℕ) (decls : List Decl) : Type 0 where
@@ -28,6 +23,13 @@ pub record Says (bytes : List ℕ) (program : Program) : Type 0 where
   pub decls : List Decl
   pub text : IsDeclared bytes decls
   pub named : names_of decls ≡ done tt program
+
+-- The text has an accepted theory, and writes so many rules.
+pub record MeansTheory (bytes : List ℕ) (rules : ℕ) : Type 0 where
+  pub program : Program
+  pub says : Says bytes program
+  pub accepted : IsAccepted (theory_of program)
+  pub counted : rules ≡ length program.rules
 
 -- The text means the problem.
 pub record Means (bytes : List ℕ) (problem : Problem) : Type 0 where

@@ -1,9 +1,12 @@
 //! What is printed for the causes of refused files.
-ghost use Rattle.std.specs.Prelude.{◌≡◌};
-ghost use Rattle.dps_judge.specs.Causes.{name_cause_text, expansion_cause_text, not_built};
+ghost use Rattle.std.specs.Prelude.{◌≡◌, string_bytes, IfOk};
+ghost use Rattle.dps_elab.specs.Rules.{flaw_of};
+ghost use Rattle.dps_judge.specs.Causes.{name_cause_text, flaw_text, expansion_cause_text, not_built};
 
-use dps_elab::ExpansionCause;
+use dps_elab::{ExpansionCause, RuleCause};
 use dps_names::NameCause;
+use dps_terms::NoMemory;
+use std::alloc::Global;
 
 /// What is printed for a fault of the names.
 pub(crate) fn name_cause_text(cause: NameCause) -> &'static str
@@ -18,6 +21,31 @@ pub(crate) fn name_cause_text(cause: NameCause) -> &'static str
         NameCause::LargeArity => "large arity",
         NameCause::PrivateInRule => "private in rule",
         NameCause::BadCopies => "bad copies",
+    }
+}
+
+/// What is printed for a fault of the rules.
+pub(crate) fn rule_cause_text(alloc: Global, cause: &RuleCause) -> Result<String, NoMemory>
+    ensures { IfOk result (λ text. string_bytes text ≡ flaw_text (flaw_of cause.now)) }
+{
+    match cause {
+        RuleCause::RootNotDestructor { rule } => {
+            format!(in alloc; "rule {rule}: left root is a constructor")
+        }
+        RuleCause::ArgumentNotConstructor { rule } => {
+            format!(in alloc; "rule {rule}: destructor inside an argument")
+        }
+        RuleCause::RightNotConstructor { rule } => {
+            format!(in alloc; "rule {rule}: destructor on the right")
+        }
+        RuleCause::NotSubterm { rule } => {
+            format!(in alloc; "rule {rule}: right side is no strict subterm and not ground")
+        }
+        RuleCause::Overlap {
+            first,
+            second,
+            bindings,
+        } => { format!(in alloc; "overlap of rules {first} and {second} under {bindings}") }
     }
 }
 

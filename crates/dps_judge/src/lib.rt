@@ -1,13 +1,18 @@
-//! What a text comes to: whether its two processes are equivalent, an attack, or the place and the cause of a refusal.
+//! What a text comes to: whether its two processes are equivalent, an attack, or the place and the cause of a refusal; and
+//! whether its rules are accepted.
 #![tactic(auto)]
 
 mod cause;
 mod judging;
 pub mod laws;
+mod ruling;
+#[cfg(test)]
+mod tests;
 mod trace;
 mod unbuilt;
 mod verdict;
 
 pub use judging::judge;
+pub use ruling::judge_theory;
 pub use unbuilt::first_unbuilt;
-pub use verdict::Verdict;
+pub use verdict::{TheoryVerdict, Verdict};

@@ -1,39 +1,41 @@
-use Rattle.std.proofs.Common.{refl, sym, ap, subst, ◌∙◌, rules}
-use Rattle.dps_terms.specs.Signature.{Signature}
-use Rattle.dps_process.specs.Kept.{IsKept}
+use Rattle.std.proofs.Common.{refl, sym, subst, rules}
 use Rattle.dps_tree.specs.Plain.{IsPlain}
-use Rattle.dps_judge.specs.Judgement.{JudgesFile, IsRefusal, IsAnswered, unbuilt}
-use Rattle.dps_judge.specs.LawsOfTexts.{unruled_problem}
-use Rattle.dps_judge.proofs.Answering.{in_ok, refused_judged, said_by, sides_of_kept, answered_judged}
+use Rattle.dps_judge.specs.Judgement.{IsRefusal, IsAnswered, unbuilt}
+use Rattle.dps_judge.specs.Ruling.{JudgesRuled}
+use Rattle.dps_judge.proofs.Answering.{in_ok, refused_judged, ruled_says, theory_accepted, lawful_sides, problem_lawful, problem_high, plain_ruled, answered_judged}
 use Rattle.dps_judge.proofs.judging.judge_sides.Goals as goal
 
 pub returns-in-Some : goal.returns-in-Some
 returns-in-Some c =
     let place = c.in-Some.place in
-    let decls = c.args.file.now.declarations.items in
-    in_ok c.refused.result (IsRefusal place c.not_built.result.now) (JudgesFile decls)
-    (λ v h bytes d. refused_judged bytes place c.not_built.result.now (unbuilt c.args.program (said_by bytes decls c.args.program d c.requires.named) c.args.sides.left c.args.sides.right c.requires.written (sym c.in-Some.ensures) c.not_built.ensures) v h)
+    let ruled = c.args.ruled in
+    in_ok c.refused.result (IsRefusal place c.not_built.result.now) (JudgesRuled ruled)
+    (λ v h bytes r. refused_judged bytes place c.not_built.result.now (unbuilt ruled.program (ruled_says bytes ruled r) (theory_accepted bytes ruled r) c.args.sides.left c.args.sides.right c.requires.written (sym c.in-Some.ensures) c.not_built.ensures) v h)
     c.refused.ensures
+
+pub problem_of-problem-requires : goal.problem_of-problem-requires
+problem_of-problem-requires c =
+    let text = c.requires.text in
+    let ruled = c.args.ruled in
+    let left = c.args.sides.left in
+    let right = c.args.sides.right in
+    let both = lawful_sides c.programs_are_well_formed.ensures c.sides_are_lawful.ensures c.binders_are_high.ensures text.bytes ruled left right text.is c.requires.written in
+    record { lawful = problem_lawful text.bytes ruled left right text.is both; binders = problem_high ruled left right both }
 
 pub answer-requires : goal.answer-requires
 answer-requires c =
-    let read = c.requires.read in
-    let said = said_by read.bytes c.args.file.now.declarations.items c.args.program read.text c.requires.named in
-    let lawful = sides_of_kept c.args.program c.args.sides.left c.args.sides.right (subst (λ (s : Signature). IsKept (unruled_problem s c.args.sides.left c.args.sides.right)) c.signature_of.ensures c.in_ok-problem-in-None.ensures.kept) in
-    let meant = c.built_texts_are_plain.ensures read.bytes c.args.program c.args.sides.left c.args.sides.right said (sym c.in-None.ensures) c.requires.written lawful in
-    subst IsPlain (sym (c.in_ok-problem-in-None.ensures.problem ∙ ap (λ (s : Signature). unruled_problem s c.args.sides.left c.args.sides.right) c.signature_of.ensures)) meant.plain
+    let text = c.requires.text in
+    let ruled = c.args.ruled in
+    let left = c.args.sides.left in
+    let right = c.args.sides.right in
+    let both = lawful_sides c.programs_are_well_formed.ensures c.sides_are_lawful.ensures c.binders_are_high.ensures text.bytes ruled left right text.is c.requires.written in
+    let meant = c.built_texts_are_plain.ensures text.bytes ruled.program left right (ruled_says text.bytes ruled text.is) (sym c.in-None.ensures) c.requires.written both in
+    subst IsPlain (sym c.problem_of-problem.ensures) (plain_ruled ruled left right text.is.theory meant)
 
-pub returns-in_err-problem-in-None : goal.returns-in_err-problem-in-None
-returns-in_err-problem-in-None c = search rules
-
-pub returns-in_ok-problem-in-None : goal.returns-in_ok-problem-in-None
-returns-in_ok-problem-in-None c =
-    let decls = c.args.file.now.declarations.items in
-    let problem = c.in_ok-problem-in-None.problem in
-    in_ok c.answer.result (IsAnswered problem) (JudgesFile decls)
-    (λ v h bytes d.
-    let said = said_by bytes decls c.args.program d c.requires.named in
-    let lawful = sides_of_kept c.args.program c.args.sides.left c.args.sides.right (subst (λ (s : Signature). IsKept (unruled_problem s c.args.sides.left c.args.sides.right)) c.signature_of.ensures c.in_ok-problem-in-None.ensures.kept) in
-    let meant = c.built_texts_are_plain.ensures bytes c.args.program c.args.sides.left c.args.sides.right said (sym c.in-None.ensures) c.requires.written lawful in
-    answered_judged bytes c.args.program c.args.sides.left c.args.sides.right said problem c.requires.written (sym c.in-None.ensures) meant (c.in_ok-problem-in-None.ensures.problem ∙ ap (λ (s : Signature). unruled_problem s c.args.sides.left c.args.sides.right) c.signature_of.ensures) v h)
+pub returns-in-None : goal.returns-in-None
+returns-in-None c =
+    let problem = c.problem_of-problem.result in
+    let ruled = c.args.ruled in
+    in_ok c.answer.result (IsAnswered problem) (JudgesRuled ruled)
+    (λ v a bytes r. answered_judged bytes ruled c.args.sides.left c.args.sides.right problem r c.requires.written (sym c.in-None.ensures) c.problem_of-problem.ensures v a)
     c.answer.ensures
