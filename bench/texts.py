@@ -46,7 +46,7 @@ def message(leaves):
     level = [f"{leaf} " for leaf in leaves]
     while len(level) > 1:
         level = [left + right + "f0 " for left, right in zip(level[::2], level[1::2])] + level[len(level) // 2 * 2 :]
-    return level[0] + "h0 "
+    return level[0] + "h1 "
 
 
 def frames(last_leaf, other_last_leaf, last, other_last):
