@@ -4,7 +4,9 @@ use Rattle.std.proofs.lemmas.List.{take_all, take_more, map-append}
 use Rattle.dps_terms.specs.Tree.{Leaf, public, private, var, ax, entry, rigid, Tree, app, more, trees, list_of, node_count, count}
 use Rattle.dps_terms.specs.Replace.{replace, replace_all}
 use Rattle.dps_terms.specs.Nodes.{leaf_of}
+use Rattle.dps_terms.specs.Views.{leaf_view}
 use Rattle.dps_terms.specs.declared.Sym.{Sym}
+use Rattle.dps_terms.specs.declared.borrowed.TermView.TheVariants.{App}
 use Rattle.dps_terms.specs.declared.term.Leaf.{Leaf as KeptLeaf}
 use Rattle.dps_terms.specs.declared.term.Leaf.TheVariants.{Public, Private, Var, Ax, Entry, Rigid}
 use Rattle.dps_terms.proofs.Subterms.{list_of-trees}
@@ -36,6 +38,25 @@ kept-leaf_of (Rigid n) = refl
 
 pub leaf_of_inj : (x y : KeptLeaf) → leaf_of x ≡ leaf_of y → x ≡ y
 leaf_of_inj x y e = sym (kept-leaf_of x) ∙ ap kept e ∙ kept-leaf_of y
+
+-- what shows the same is the same leaf
+pub same_view : (x y : Leaf) → leaf_view x ≡ leaf_view y → x ≡ y
+same_view (public m) (public n) e = let d : m ≡ n = cc in ap public d
+same_view (private m) (private n) e = let d : m ≡ n = cc in ap private d
+same_view (var m) (var n) e = let d : m ≡ n = cc in ap var d
+same_view (ax m) (ax n) e = let d : m ≡ n = cc in ap ax d
+same_view (entry m) (entry n) e = let d : m ≡ n = cc in ap entry d
+same_view (rigid m) (rigid n) e = let d : m ≡ n = cc in ap rigid d
+same_view _ _ e = cc
+
+-- a leaf shows no symbol
+pub leaf_is_no_app : (x : Leaf) (f : Sym) → leaf_view x ≡ App f → ⊥
+leaf_is_no_app (public m) f e = cc
+leaf_is_no_app (private m) f e = cc
+leaf_is_no_app (var m) f e = cc
+leaf_is_no_app (ax m) f e = cc
+leaf_is_no_app (entry m) f e = cc
+leaf_is_no_app (rigid m) f e = cc
 
 -- the arguments one by one
 pub replace_trees : (f : Leaf → Tree) (ts : List Tree) → replace_all f (trees ts) ≡ trees (map (replace f) ts)

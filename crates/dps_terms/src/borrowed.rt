@@ -35,7 +35,7 @@ impl Term {
 }
 
 impl<'a> TermRef<'a> {
-    ghost use Rattle.dps_terms.specs.Views.{view_of, arguments};
+    ghost use Rattle.dps_terms.specs.Views.{view_of, arguments, HaveSameRoot};
     ghost use Rattle.dps_terms.specs.Seen.{seen};
 
     /// What stands at the root.
@@ -51,6 +51,18 @@ impl<'a> TermRef<'a> {
             Node::Leaf(Leaf::Ax(number)) => TermView::Ax(*number),
             Node::Leaf(Leaf::Entry(number)) => TermView::Entry(*number),
             Node::Leaf(Leaf::Rigid(number)) => TermView::Rigid(*number),
+        }
+    }
+
+    /// Whether the same stands at both roots, over as many arguments.
+    pub fn has_root_of(self, other: TermRef<'_>) -> bool
+        ensures { IsTrue result ↔ HaveSameRoot (seen self.entry) (seen other.entry) }
+    {
+        let (term, other) = (self.term, other.term);
+        match (&term.node, &other.node) {
+            (Node::App(f, xs), Node::App(g, ys)) => *f == *g && xs.len() == ys.len(),
+            (Node::Leaf(x), Node::Leaf(y)) => *x == *y,
+            _ => false,
         }
     }
 

@@ -1,6 +1,6 @@
 -- What is known of pending pairs while pairs are taken apart.
 use Rattle.std.proofs.Common.{◌≡◌, ℕ, suc, ◌<◌, ◌≤◌, List, [], ◌∷◌, ◌++◌, length, drop, refl, sym, ◌∙◌, ap, arith, ◌⊎◌, inl, inr, subst, Bool, true, ◌&&◌, nat_eq}
-use Rattle.std.specs.Prelude.{Contains}
+use Rattle.std.specs.Prelude.{Contains, Option, Some, None}
 use Rattle.std.specs.List.{list_any}
 use Rattle.std.proofs.lemmas.List.Folds.{Any-from_list_any}
 use Rattle.std.proofs.lemmas.Bool.{cases_Bool, cases_lt, and_parts, eqb-true}
@@ -10,15 +10,14 @@ use Rattle.std.proofs.lemmas.List.{drop_at, drop-append-le, drop_all}
 use Rattle.std.proofs.lemmas.List.Elements.{All-nil, Contains-append_left, Contains-push, Contains-push_cases}
 use Rattle.dps_terms.specs.Tree.{var, Tree, leaf}
 use Rattle.dps_terms.specs.Replace.{substitute}
-use Rattle.dps_terms.specs.declared.borrowed.TermView.TheVariants.{Var}
-use Rattle.dps_terms.specs.Views.{view_of, arguments}
+use Rattle.dps_terms.specs.Views.{arguments, HaveSameRoot}
 use Rattle.dps_unify.specs.Unifier.{Unifies, IsVariableOf}
 use Rattle.dps_unify.specs.Chain.{Fulfils, solved, IsChain, Resolves}
-use Rattle.dps_unify.specs.Difference.{pairs_of, IsAlike, AreUnified, Remains, IsDifference}
-use Rattle.dps_unify.specs.Kept.{trees_of, AreKept, IsKnown, IsKnownWith, AreKnownEqual, IsBegun, IsTakenApart, known, opened, AreApart}
+use Rattle.dps_unify.specs.Difference.{pairs_of, AreVariables, AreUnified, Remains, IsDifference}
+use Rattle.dps_unify.specs.Kept.{trees_of, AreKept, IsKnown, IsKnownWith, AreKnownEqual, AreNotedEqual, IsBegun, IsTakenApart, known, opened, AreApart}
 use Rattle.dps_unify.specs.declared.pending.Begun.{Begun}
 use Rattle.dps_unify.specs.declared.pending.Pending.{Pending}
-use Rattle.dps_unify.proofs.Trees.{unified_arguments, var_from_view}
+use Rattle.dps_unify.proofs.Trees.{unified_arguments}
 use Rattle.dps_unify.proofs.Pairs.{unifies-append, unifies_one, any_left, StandsInPair, weight, weight-append, has_nodes, difference_found, remains_more, weight_falls}
 
 -- the pairs are the same, and what was known is known
@@ -109,7 +108,7 @@ module _ (b : List (ℕ × Tree)) (pending : Pending) (t u : Tree) (h : IsKnownW
         (λ r f. (f, λ k. sym (left.same r f) ∙ ((unifies_one r (a, c)).0 k ∙ right.same r f)))
 
     -- the pairs of its arguments are in its place
-    module _ (alike : IsAlike a c) (begun new : Pending) (is : IsBegun pending t u begun) (same_begun : new.begun.items ≡ begun.begun.items) (same_equal : new.equal.keys ≡ begun.equal.keys) (pairs : trees_of new ≡ trees_of pending ++ zip (arguments a) (arguments c)) where
+    module _ (alike : HaveSameRoot a c) (variables : Option (ℕ × ℕ)) (are : AreVariables t u variables) (begun new : Pending) (is : IsBegun pending variables begun) (same_begun : new.begun.items ≡ begun.begun.items) (same_equal : new.equal.keys ≡ begun.equal.keys) (pairs : trees_of new ≡ trees_of pending ++ zip (arguments a) (arguments c)) where
       made_equal : (r : ℕ → Tree) → Fulfils r b → Unifies r (zip (arguments a) (arguments c)) → substitute r t ≡ substitute r u
       made_equal r f k = sym (left.same r f) ∙ ((unified_arguments r a c alike).1 k ∙ right.same r f)
 
@@ -129,26 +128,28 @@ module _ (b : List (ℕ × Tree)) (pending : Pending) (t u : Tree) (h : IsKnownW
         begun = λ m c r f k.
             elim (is.begun m (subst (λ ms. Contains ms m) same_begun c)) [
               | inl o ↦ before.begun m o r f k
-              | inr o ↦ one_begun m o.0 o.1 o.2 r f k
+              | inr o ↦ (let e = subst (AreVariables t u) o.1 are in one_begun m o.0 e.0 e.1 r f k)
             ];
         equal = λ p c r f. before.equal p (subst (λ ps. Contains ps p) (same_equal ∙ is.equal) c) r f;
       }
 
 -- the pairs behind those that stood before the note
-pub opened_after : (old noted : Pending) (t u : Tree) (after more : List (Tree × Tree)) → IsBegun old t u noted → after ≡ trees_of noted ++ more → after ≡ trees_of old ++ more
-opened_after old noted t u after more is e = e ∙ ap (λ ds. pairs_of ds ++ more) is.pairs
+pub opened_after : (old noted : Pending) (variables : Option (ℕ × ℕ)) (after more : List (Tree × Tree)) → IsBegun old variables noted → after ≡ trees_of noted ++ more → after ≡ trees_of old ++ more
+opened_after old noted variables after more is e = e ∙ ap (λ ds. pairs_of ds ++ more) is.pairs
 
--- two variables among those that are known to be equal
-pub known_among : (pending : Pending) (t u : Tree) (x y : ℕ) → Var x ≡ view_of t → Var y ≡ view_of u → list_any (λ (k : ℕ × ℕ). nat_eq x k.0 && nat_eq y k.1) pending.equal.keys ≡ true → AreKnownEqual pending t u
-known_among pending t u x y l g e =
-    let a = Any-from_list_any (λ (k : ℕ × ℕ). nat_eq x k.0 && nat_eq y k.1) pending.equal.keys e in
-    let same = and_parts (nat_eq x a.1.0) (nat_eq y a.1.1) a.4 in
-    record {
-      pair = a.1;
-      known = (a.0, a.2, a.3);
-      left = var_from_view t x (sym l) ∙ ap (λ n. leaf (var n)) (eqb-true x a.1.0 same.0);
-      right = var_from_view u y (sym g) ∙ ap (λ n. leaf (var n)) (eqb-true y a.1.1 same.1);
-    }
+-- the variables that two trees are stand among those that are known to be equal
+pub noted_among : (pending : Pending) (pair : ℕ × ℕ) → list_any (λ (k : ℕ × ℕ). nat_eq pair.0 k.0 && nat_eq pair.1 k.1) pending.equal.keys ≡ true → Contains pending.equal.keys pair
+noted_among pending pair e =
+    let a = Any-from_list_any (λ (k : ℕ × ℕ). nat_eq pair.0 k.0 && nat_eq pair.1 k.1) pending.equal.keys e in
+    let same = and_parts (nat_eq pair.0 a.1.0) (nat_eq pair.1 a.1.1) a.4 in
+    let left : a.1.0 ≡ pair.0 = sym (eqb-true pair.0 a.1.0 same.0) in
+    let right : a.1.1 ≡ pair.1 = sym (eqb-true pair.1 a.1.1 same.1) in
+    let there : a.1 ≡ pair = λ i. (left i, right i) in
+    subst (Contains pending.equal.keys) there (a.0, a.2, a.3)
+
+pub known_equal : (pending : Pending) (t u : Tree) (variables : Option (ℕ × ℕ)) → AreVariables t u variables → AreNotedEqual pending variables → AreKnownEqual pending t u
+known_equal pending t u (Some pair) are noted = record { pair = pair; known = noted; left = are.0; right = are.1 }
+known_equal pending t u None are noted = absurd noted
 
 -- the search for a difference: what remains of the pairs at its start
 pub record Advances (b : List (ℕ × Tree)) (before : List (Tree × Tree)) (pending : Pending) : Type 0 where

@@ -6,11 +6,11 @@ use Rattle.std.proofs.lemmas.Option.{none-some, slice_get_within}
 use Rattle.dps_terms.specs.Tree.{var, Tree, Trees, leaf, app, none, more, list_of, StandsIn, itself}
 use Rattle.dps_terms.specs.Replace.{substitute, substitute_all}
 use Rattle.dps_terms.specs.Bindings.{bound, image}
-use Rattle.dps_terms.specs.Views.{view_of, arguments}
+use Rattle.dps_terms.specs.Views.{view_of, arguments, HaveSameRoot}
 use Rattle.dps_terms.specs.declared.TermView.TheVariants.{Var}
-use Rattle.dps_unify.specs.Difference.{IsAlike}
+use Rattle.dps_terms.proofs.Arguments.{same_view, leaf_is_no_app}
 use Rattle.dps_unify.specs.Matching.{IsMatch, Keeps, Agrees, Matched, Refused}
-use Rattle.dps_unify.proofs.Trees.{same_view, leaf_is_no_app, alike_instance, stands_in_argument, in_leaf}
+use Rattle.dps_unify.proofs.Trees.{alike_instance, stands_in_argument, in_leaf}
 use Rattle.dps_unify.proofs.Reached.{below_root}
 use Rattle.dps_unify.proofs.Bound.{cases_option, single_here, single_cases, bound-push_some, bound-push_none, image_none, image_some}
 
@@ -76,7 +76,7 @@ module _ (free : List ℕ) (s : List (ℕ × Tree)) (x : ℕ) (t : Tree) where
       }
 
 -- another root
-pub refused_root : (free : List ℕ) (s : List (ℕ × Tree)) (p t : Tree) → ((m : ℕ) → view_of p ≡ Var m → ⊥) → (IsAlike p t → ⊥) → Refused free s p t
+pub refused_root : (free : List ℕ) (s : List (ℕ × Tree)) (p t : Tree) → ((m : ℕ) → view_of p ≡ Var m → ⊥) → (HaveSameRoot p t → ⊥) → Refused free s p t
 refused_root free s p t non a r k g h =
     let b = alike_instance r p non in
     a (sym b.0 ∙ ap view_of h, sym b.1 ∙ ap (λ u. length (arguments u)) h)
@@ -104,7 +104,7 @@ pub record SoFar (free : List ℕ) (s : List (ℕ × Tree)) (p t : Tree) (q : Li
   pub matches : (r : ℕ → Tree) → Keeps free r → Agrees r q → (j : ℕ) → j < i → (v w : Tree) → slice_get (arguments p) j ≡ Some v → slice_get (arguments t) j ≡ Some w → substitute r v ≡ w
   pub forced : (r : ℕ → Tree) → Keeps free r → Agrees r s → substitute r p ≡ t → Agrees r q
 
--- trees with alike roots over equal arguments
+-- trees with the same root over equal arguments
 same_all : (ts us : Trees) → length (list_of ts) ≡ length (list_of us) → ((j : ℕ) (v w : Tree) → slice_get (list_of ts) j ≡ Some v → slice_get (list_of us) j ≡ Some w → v ≡ w) → ts ≡ us
 same_all none none e h = refl
 same_all none (more u us) e h = absurd (omega arith)
@@ -113,7 +113,7 @@ same_all (more t ts) (more u us) e h =
     let a = h 0 t u refl refl in
     let b = same_all ts us (omega arith) (λ j v w. h (suc j) v w) in λ i. more (a i) (b i)
 
-same_from_arguments : (t u : Tree) → IsAlike t u → ((j : ℕ) (v w : Tree) → slice_get (arguments t) j ≡ Some v → slice_get (arguments u) j ≡ Some w → v ≡ w) → t ≡ u
+same_from_arguments : (t u : Tree) → HaveSameRoot t u → ((j : ℕ) (v w : Tree) → slice_get (arguments t) j ≡ Some v → slice_get (arguments u) j ≡ Some w → v ≡ w) → t ≡ u
 same_from_arguments (leaf x) (leaf y) e h = ap leaf (same_view x y e.0)
 same_from_arguments (leaf x) (app g us) e h = absurd (leaf_is_no_app x g e.0)
 same_from_arguments (app f ts) (leaf y) e h = absurd (leaf_is_no_app y f (sym e.0))
@@ -123,7 +123,7 @@ same_from_arguments (app f ts) (app g us) e h =
 
 module _ (free : List ℕ) (s : List (ℕ × Tree)) (p t : Tree) where
   module _ (q : List (ℕ × Tree)) (i : ℕ) (h : SoFar free s p t q i) where
-    pub so_far_end : ((m : ℕ) → view_of p ≡ Var m → ⊥) → IsAlike p t → length (arguments p) ≤ i → Matched free s p t q
+    pub so_far_end : ((m : ℕ) → view_of p ≡ Var m → ⊥) → HaveSameRoot p t → length (arguments p) ≤ i → Matched free s p t q
     so_far_end non a l = record {
       keeps = h.keeps;
       within = h.within;

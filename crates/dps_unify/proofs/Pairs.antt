@@ -7,11 +7,11 @@ use Rattle.std.proofs.lemmas.List.Elements.{All-nil, All-cons, All-head, All-tai
 use Rattle.std.proofs.lemmas.Option.{none-some}
 use Rattle.dps_terms.specs.Tree.{var, Tree, Trees, leaf, app, none, more, list_of, node_count, node_counts, StandsIn}
 use Rattle.dps_terms.specs.Replace.{substitute, substitute_all}
-use Rattle.dps_terms.specs.Views.{arguments}
+use Rattle.dps_terms.specs.Views.{arguments, HaveSameRoot}
 use Rattle.dps_terms.specs.Seen.{seen}
 use Rattle.dps_unify.specs.Unifier.{Unifies, IsVariableOf}
 use Rattle.dps_unify.specs.Chain.{Fulfils, solved, IsHeld, IsChain, Resolves}
-use Rattle.dps_unify.specs.Difference.{pairs_of, IsAlike, Remains, IsDifference}
+use Rattle.dps_unify.specs.Difference.{pairs_of, Remains, IsDifference}
 use Rattle.dps_unify.specs.declared.difference.Parts.{Parts}
 use Rattle.dps_unify.proofs.Trees.{unified_arguments, stands_in_argument}
 
@@ -136,7 +136,7 @@ module _ (b : List (ℕ × Tree)) (before now rest : List (Tree × Tree)) (t u a
   in_parts n (inl k) = elim (left.within n k) [ inl o ↦ in_pair n (inl o) | inr o ↦ inr o ]
   in_parts n (inr k) = elim (right.within n k) [ inl o ↦ in_pair n (inr o) | inr o ↦ inr o ]
 
-  pub difference_found : ¬ IsAlike a c → IsDifference b before rest a c
+  pub difference_found : ¬ HaveSameRoot a c → IsDifference b before rest a c
   difference_found apart = record {
     apart = apart;
     left = left.resolved;
@@ -147,7 +147,7 @@ module _ (b : List (ℕ × Tree)) (before now rest : List (Tree × Tree)) (t u a
   }
 
   module _ (after : List (Tree × Tree)) (is_after : after ≡ rest ++ zip (arguments a) (arguments c)) where
-    pub remains_more : IsAlike a c → Remains b before after
+    pub remains_more : HaveSameRoot a c → Remains b before after
     remains_more alike = record {
       same = λ r f.
           let before_now = h.same r f in

@@ -5,14 +5,14 @@ use Rattle.std.proofs.lemmas.List.Elements.{All-nil, All-cons, All-head, All-tai
 use Rattle.std.proofs.lemmas.Option.{none-some}
 use Rattle.std.specs.List.{zip}
 use Rattle.dps_terms.specs.declared.Sym.{Sym}
-use Rattle.dps_terms.specs.declared.TermView.TheVariants.{App, Var}
+use Rattle.dps_terms.specs.declared.TermView.TheVariants.{Var}
 use Rattle.dps_terms.specs.Tree.{Leaf, public, private, var, ax, entry, rigid, Tree, Trees, leaf, app, none, more, list_of, node_count, IsSubterm, IsAmong, StandsIn, itself, below, in_first, in_rest}
 use Rattle.dps_terms.specs.Replace.{replace, substitute, substitute_all, variables_to}
-use Rattle.dps_terms.specs.Views.{view_of, arguments}
+use Rattle.dps_terms.specs.Views.{view_of, arguments, HaveSameRoot}
 use Rattle.dps_terms.proofs.Replacing.{replace_in_turn, replace_agrees, replace_itself, subterm_of_instance, keeps_among}
+use Rattle.dps_terms.proofs.Arguments.{same_view, leaf_is_no_app}
 use Rattle.dps_terms.proofs.Subterms.{among_le}
 use Rattle.dps_unify.specs.Unifier.{Unifies}
-use Rattle.dps_unify.specs.Difference.{IsAlike}
 
 -- one substitution after another
 at_leaf : (r z : ℕ → Tree) (x : Leaf) → replace (variables_to r) (variables_to z x) ≡ variables_to (λ n. substitute r (z n)) x
@@ -90,24 +90,6 @@ occurs_check r n (app f ts) k other e =
     app_cases u g us itself = inl refl
     app_cases u g us (below m) = inr m
 
--- trees with alike roots over the same arguments
-pub same_view : (x y : Leaf) → view_of (leaf x) ≡ view_of (leaf y) → x ≡ y
-same_view (public m) (public n) e = let d : m ≡ n = cc in ap public d
-same_view (private m) (private n) e = let d : m ≡ n = cc in ap private d
-same_view (var m) (var n) e = let d : m ≡ n = cc in ap var d
-same_view (ax m) (ax n) e = let d : m ≡ n = cc in ap ax d
-same_view (entry m) (entry n) e = let d : m ≡ n = cc in ap entry d
-same_view (rigid m) (rigid n) e = let d : m ≡ n = cc in ap rigid d
-same_view _ _ e = cc
-
-pub leaf_is_no_app : (x : Leaf) (f : Sym) → view_of (leaf x) ≡ App f → ⊥
-leaf_is_no_app (public m) f e = cc
-leaf_is_no_app (private m) f e = cc
-leaf_is_no_app (var m) f e = cc
-leaf_is_no_app (ax m) f e = cc
-leaf_is_no_app (entry m) f e = cc
-leaf_is_no_app (rigid m) f e = cc
-
 -- the tree with this root
 pub var_from_view : (t : Tree) (n : ℕ) → view_of t ≡ Var n → t ≡ leaf (var n)
 var_from_view (leaf x) n e = ap leaf (same_view x (var n) e)
@@ -130,7 +112,7 @@ all_equal r (more t ts) (more u us) e =
     let b : substitute_all r ts ≡ substitute_all r us = cc in
     All-cons (λ p. substitute r p.0 ≡ substitute r p.1) (t, u) (zip (list_of ts) (list_of us)) a (all_equal r ts us b)
 
-pub unified_arguments : (r : ℕ → Tree) (a b : Tree) → IsAlike a b → (substitute r a ≡ substitute r b) ↔ Unifies r (zip (arguments a) (arguments b))
+pub unified_arguments : (r : ℕ → Tree) (a b : Tree) → HaveSameRoot a b → (substitute r a ≡ substitute r b) ↔ Unifies r (zip (arguments a) (arguments b))
 unified_arguments r (leaf x) (leaf y) h = (λ _. All-nil (λ p. substitute r p.0 ≡ substitute r p.1), λ _. ap (λ k. substitute r (leaf k)) (same_view x y h.0))
 unified_arguments r (leaf x) (app g us) h = absurd (leaf_is_no_app x g h.0)
 unified_arguments r (app f ts) (leaf y) h = absurd (leaf_is_no_app y f (sym h.0))
@@ -145,7 +127,7 @@ length_instance : (r : ℕ → Tree) (ts : Trees) → length (list_of (substitut
 length_instance r none = refl
 length_instance r (more t ts) = omega (arith, length_instance r ts)
 
-alike_leaf : (r : ℕ → Tree) (x : Leaf) → ((n : ℕ) → view_of (leaf x) ≡ Var n → ⊥) → IsAlike (variables_to r x) (leaf x)
+alike_leaf : (r : ℕ → Tree) (x : Leaf) → ((n : ℕ) → view_of (leaf x) ≡ Var n → ⊥) → HaveSameRoot (variables_to r x) (leaf x)
 alike_leaf r (public m) h = (refl, refl)
 alike_leaf r (private m) h = (refl, refl)
 alike_leaf r (var m) h = absurd (h m refl)
@@ -153,11 +135,11 @@ alike_leaf r (ax m) h = (refl, refl)
 alike_leaf r (entry m) h = (refl, refl)
 alike_leaf r (rigid m) h = (refl, refl)
 
-pub alike_instance : (r : ℕ → Tree) (t : Tree) → ((n : ℕ) → view_of t ≡ Var n → ⊥) → IsAlike (substitute r t) t
+pub alike_instance : (r : ℕ → Tree) (t : Tree) → ((n : ℕ) → view_of t ≡ Var n → ⊥) → HaveSameRoot (substitute r t) t
 alike_instance r (leaf x) h = alike_leaf r x h
 alike_instance r (app f ts) h = (refl, length_instance r ts)
 
-pub never_equal : (a b : Tree) → ¬ IsAlike a b → ((n : ℕ) → view_of a ≡ Var n → ⊥) → ((n : ℕ) → view_of b ≡ Var n → ⊥) → (r : ℕ → Tree) → substitute r a ≡ substitute r b → ⊥
+pub never_equal : (a b : Tree) → ¬ HaveSameRoot a b → ((n : ℕ) → view_of a ≡ Var n → ⊥) → ((n : ℕ) → view_of b ≡ Var n → ⊥) → (r : ℕ → Tree) → substitute r a ≡ substitute r b → ⊥
 never_equal a b apart na nb r e =
     let x = alike_instance r a na in
     let y = alike_instance r b nb in

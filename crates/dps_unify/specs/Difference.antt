@@ -1,8 +1,8 @@
 -- Pairs of terms that are still to become equal, and the first parts of them that differ.
-use Rattle.std.specs.Prelude.{◌≡◌, ◌↔◌, ◌⊎◌, ℕ, List, map, length}
-use Rattle.dps_terms.specs.Tree.{var, Tree, StandsIn}
+use Rattle.std.specs.Prelude.{◌≡◌, ◌↔◌, ◌⊎◌, ℕ, List, map, Option, Some, None}
+use Rattle.dps_terms.specs.Tree.{var, Tree, leaf, StandsIn}
 use Rattle.dps_terms.specs.Replace.{substitute}
-use Rattle.dps_terms.specs.Views.{view_of, arguments}
+use Rattle.dps_terms.specs.Views.{HaveSameRoot}
 use Rattle.dps_terms.specs.Seen.{seen}
 use Rattle.dps_unify.specs.Unifier.{Unifies, IsVariableOf}
 use Rattle.dps_unify.specs.Chain.{Fulfils, IsHeld, IsResolved}
@@ -12,9 +12,10 @@ use Rattle.dps_unify.specs.declared.difference.Parts.{Parts}
 abbrev pub pairs_of : List Parts → List (Tree × Tree)
 pairs_of parts = map (λ d. (seen d.left, seen d.right)) parts
 
--- the roots are alike
-abbrev pub IsAlike : Tree → Tree → Type 0
-IsAlike a b = (view_of a ≡ view_of b) × (length (arguments a) ≡ length (arguments b))
+-- the variables that the two trees are, where both are variables
+abbrev pub AreVariables : Tree → Tree → Option (ℕ × ℕ) → Type 0
+AreVariables a b (Some pair) = (a ≡ leaf (var pair.0)) × (b ≡ leaf (var pair.1))
+AreVariables a b None = (x y : ℕ) → a ≡ leaf (var x) → ¬ (b ≡ leaf (var y))
 
 -- whatever fulfils the bindings unifies the pairs
 abbrev pub AreUnified : List (ℕ × Tree) → List (Tree × Tree) → Type 0
@@ -27,7 +28,7 @@ pub record Remains (bindings : List (ℕ × Tree)) (before after : List (Tree ×
 
 -- of the pairs there remain two parts a and b, whose roots differ, and the pairs after
 pub record IsDifference (bindings : List (ℕ × Tree)) (before after : List (Tree × Tree)) (a b : Tree) : Type 0 where
-  pub apart : ¬ IsAlike a b
+  pub apart : ¬ HaveSameRoot a b
   pub left : IsResolved bindings a
   pub right : IsResolved bindings b
   pub same : (r : ℕ → Tree) → Fulfils r bindings → Unifies r before ↔ (Unifies r after × (substitute r a ≡ substitute r b))

@@ -1,11 +1,11 @@
 -- What is known of pairs that are still to become equal, and of those that were taken apart.
-use Rattle.std.specs.Prelude.{◌≡◌, ◌⊎◌, ℕ, length, List, [], ◌∷◌, ◌++◌, drop, Contains}
+use Rattle.std.specs.Prelude.{◌≡◌, ◌⊎◌, ℕ, length, List, [], ◌∷◌, ◌++◌, drop, Option, Some, None, Contains}
 use Rattle.std.specs.List.{zip}
 use Rattle.dps_terms.specs.Tree.{var, Tree, leaf}
-use Rattle.dps_terms.specs.Views.{arguments}
+use Rattle.dps_terms.specs.Views.{arguments, HaveSameRoot}
 use Rattle.dps_unify.specs.Unifier.{Unifies}
 use Rattle.dps_unify.specs.Chain.{Fulfils, Resolves}
-use Rattle.dps_unify.specs.Difference.{pairs_of, IsAlike}
+use Rattle.dps_unify.specs.Difference.{pairs_of}
 use Rattle.dps_unify.specs.declared.pending.Begun.{Begun}
 use Rattle.dps_unify.specs.declared.pending.Pending.{Pending}
 
@@ -34,13 +34,18 @@ pub record AreKnownEqual (pending : Pending) (t u : Tree) : Type 0 where
   pub left : t ≡ leaf (var pair.0)
   pub right : u ≡ leaf (var pair.1)
 
--- where t and u are variables it is noted that their pair, which was taken out, is taken apart
-pub record IsBegun (old : Pending) (t u : Tree) (new : Pending) : Type 0 where
+-- the variables are known to be equal
+abbrev pub AreNotedEqual : Pending → Option (ℕ × ℕ) → Type 0
+AreNotedEqual pending None = ⊥
+AreNotedEqual pending (Some pair) = Contains pending.equal.keys pair
+
+-- it is noted that the pair of these variables, which was taken out, is taken apart
+pub record IsBegun (old : Pending) (variables : Option (ℕ × ℕ)) (new : Pending) : Type 0 where
   pub pairs : new.pairs.items ≡ old.pairs.items
   pub equal : new.equal.keys ≡ old.equal.keys
   pub begun :
       (m : Begun) → Contains new.begun.items m
-      → Contains old.begun.items m ⊎ ((m.below ≡ length (trees_of old)) × (t ≡ leaf (var m.left)) × (u ≡ leaf (var m.right)))
+      → Contains old.begun.items m ⊎ ((m.below ≡ length (trees_of old)) × (variables ≡ Some (m.left, m.right)))
 
 -- the pair of t and u was the last of the pairs
 abbrev pub IsLast : Pending → Tree → Tree → Pending → Type 0
@@ -51,12 +56,12 @@ IsLast old t u new = trees_of old ≡ trees_of new ++ (t, u) ∷ []
 pub data IsTakenApart (b : List (ℕ × Tree)) (old : Pending) (t u : Tree) (new : Pending) : Type 0 where
   known : AreKnownEqual old t u → trees_of new ≡ trees_of old → IsTakenApart b old t u new
   opened :
-      (a c : Tree) → Resolves b t a → Resolves b u c → IsAlike a c
+      (a c : Tree) → Resolves b t a → Resolves b u c → HaveSameRoot a c
       → trees_of new ≡ trees_of old ++ zip (arguments a) (arguments c) → IsTakenApart b old t u new
 
 -- t and u resolve to parts that differ at their roots, and no pair has changed
 pub record AreApart (b : List (ℕ × Tree)) (old : Pending) (t u : Tree) (new : Pending) (a c : Tree) : Type 0 where
   pub left : Resolves b t a
   pub right : Resolves b u c
-  pub apart : ¬ IsAlike a c
+  pub apart : ¬ HaveSameRoot a c
   pub same : trees_of new ≡ trees_of old

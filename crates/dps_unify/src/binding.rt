@@ -1,7 +1,7 @@
 //! What two parts that differ force.
 ghost use Rattle.std.specs.Prelude.{◌≡◌, MatchOption};
 ghost use Rattle.dps_terms.specs.Seen.{seen};
-ghost use Rattle.dps_unify.specs.Difference.{IsAlike};
+ghost use Rattle.dps_terms.specs.Views.{HaveSameRoot};
 ghost use Rattle.dps_unify.specs.Forced.{AreNeverEqual, IsForced};
 
 use crate::VarOrder;
@@ -18,7 +18,7 @@ pub(crate) struct Binding<'a> {
 /// The binding without which the parts do not become equal, and `None` where nothing makes them equal. Their roots
 /// differ.
 pub(crate) fn forced_binding<'a>(order: &VarOrder, parts: Parts<'a>) -> Option<Binding<'a>>
-    requires { ¬ IsAlike (seen parts.left) (seen parts.right) }
+    requires { ¬ HaveSameRoot (seen parts.left) (seen parts.right) }
     ensures { MatchOption result (AreNeverEqual (seen parts.entry.left) (seen parts.entry.right)) (λ b. IsForced order.now.levels.items (seen parts.entry.left) (seen parts.entry.right) b.variable (seen b.term)) }
 {
     let Parts { left, right } = parts;

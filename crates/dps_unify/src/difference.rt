@@ -2,14 +2,14 @@
 ghost use Rattle.std.specs.Prelude.{◌≡◌, ◌++◌, ◌↔◌, IsTrue, IfOk, IfSome, OnOk, MatchOption};
 ghost use Rattle.std.specs.List.{zip};
 ghost use Rattle.dps_terms.specs.Seen.{seen};
-ghost use Rattle.dps_terms.specs.Views.{arguments};
+ghost use Rattle.dps_terms.specs.Views.{arguments, HaveSameRoot};
 ghost use Rattle.dps_unify.specs.Chain.{IsChain};
-ghost use Rattle.dps_unify.specs.Difference.{pairs_of, IsAlike, AreUnified, IsDifference};
+ghost use Rattle.dps_unify.specs.Difference.{pairs_of, AreVariables, AreUnified, IsDifference};
 ghost use Rattle.dps_unify.specs.Kept.{trees_of, IsKnown, IsKnownWith};
 
 use crate::bindings::Bindings;
 use crate::pending::Pending;
-use dps_terms::{NoMemory, TermRef};
+use dps_terms::{NoMemory, TermRef, TermView};
 
 /// Two terms that have to become equal.
 #[derive(Clone, Copy)]
@@ -18,11 +18,19 @@ pub(crate) struct Parts<'a> {
     pub(crate) right: TermRef<'a>,
 }
 
-/// Whether the roots are alike.
-pub(crate) fn alike(left: TermRef<'_>, right: TermRef<'_>) -> bool
-    ensures { IsTrue result ↔ IsAlike (seen left.entry) (seen right.entry) }
-{
-    left.view() == right.view() && left.arity() == right.arity()
+impl<'a> Parts<'a> {
+    /// The variables, where both are.
+    pub(crate) fn variables(self) -> Option<(u64, u64)>
+        ensures { AreVariables (seen self.entry.left) (seen self.entry.right) result }
+    {
+        let TermView::Var(left) = self.left.view() else {
+            return None;
+        };
+        let TermView::Var(right) = self.right.view() else {
+            return None;
+        };
+        Some((left, right))
+    }
 }
 
 /// Two parts of the pending pairs whose roots differ under the bindings. The pairs before are taken apart, and those behind
@@ -50,7 +58,7 @@ pub(crate) fn push_arguments<'a>(
     left: TermRef<'a>,
     right: TermRef<'a>,
 ) -> Result<(), NoMemory>
-    requires { IsAlike (seen left) (seen right) }
+    requires { HaveSameRoot (seen left) (seen right) }
     ensures { OnOk result (pairs_of pending.new.items ≡ pairs_of pending.old.items ++ zip (arguments (seen left.entry)) (arguments (seen right.entry))) }
 {
     for index in 0..left.arity() {

@@ -4,7 +4,6 @@ ghost use Rattle.dps_terms.specs.Tree.{leaf, var};
 ghost use Rattle.dps_terms.specs.Seen.{seen};
 ghost use Rattle.dps_unify.specs.Matching.{IsMatch, HasNoMatch, Matched, Refused};
 
-use crate::difference::alike;
 use dps_terms::{NoMemory, Subst, Term, TermRef, TermView};
 use std::alloc::Global;
 
@@ -40,7 +39,7 @@ pub fn extend_match(
     if let TermView::Var(variable) = pattern.view() {
         return match_variable(alloc, solution, free, variable, term);
     }
-    if !alike(pattern, term) {
+    if !pattern.has_root_of(term) {
         return Ok(false);
     }
     for index in 0..pattern.arity() {

@@ -3,14 +3,14 @@ ghost use Rattle.std.specs.Prelude.{◌≡◌, ◌++◌, [], ℕ, List, IsTrue, 
 ghost use Rattle.std.specs.List.{zip};
 ghost use Rattle.dps_terms.specs.Tree.{Tree};
 ghost use Rattle.dps_terms.specs.Seen.{seen};
-ghost use Rattle.dps_terms.specs.Views.{arguments};
+ghost use Rattle.dps_terms.specs.Views.{arguments, HaveSameRoot};
 ghost use Rattle.dps_unify.specs.Chain.{IsChain, Resolves};
-ghost use Rattle.dps_unify.specs.Difference.{pairs_of, IsAlike};
-ghost use Rattle.dps_unify.specs.Kept.{trees_of, IsKnown, IsKnownWith, AreKnownEqual, IsLast, IsBegun, IsTakenApart, AreApart};
+ghost use Rattle.dps_unify.specs.Difference.{pairs_of};
+ghost use Rattle.dps_unify.specs.Kept.{trees_of, IsKnown, IsKnownWith, AreNotedEqual, IsLast, IsBegun, IsTakenApart, AreApart};
 
 use crate::bindings::Bindings;
-use crate::difference::{Parts, alike, push_arguments};
-use dps_terms::{NoMemory, Term, TermRef, TermView};
+use crate::difference::{Parts, push_arguments};
+use dps_terms::{NoMemory, Term};
 use indexmap::IndexSet;
 use std::alloc::{AllocError, Global};
 
@@ -74,28 +74,26 @@ impl<'a> Pending<'a> {
         Ok(())
     }
 
-    /// Whether the two are variables that are known to be equal.
-    fn are_equal(&self, parts: Parts<'a>) -> bool
-        ensures { IsTrue result → AreKnownEqual self.now (seen parts.entry.left) (seen parts.entry.right) }
+    /// Whether the variables are known to be equal.
+    fn are_equal(&self, variables: Option<(u64, u64)>) -> bool
+        ensures { IsTrue result → AreNotedEqual self.now variables }
     {
-        match (parts.left.view(), parts.right.view()) {
-            (TermView::Var(left), TermView::Var(right)) => self.equal.contains(&(left, right)),
-            _ => false,
+        match variables {
+            Some(pair) => self.equal.contains(&pair),
+            None => false,
         }
     }
 
-    /// Notes two variables whose pair is to be taken apart, and was taken out.
-    fn begin(&mut self, parts: Parts<'a>) -> Result<(), NoMemory>
-        ensures { OnOk result (IsBegun self.old (seen parts.entry.left) (seen parts.entry.right) self.new) }
+    /// Notes the variables of a pair that is to be taken apart, and was taken out.
+    fn begin(&mut self, variables: Option<(u64, u64)>) -> Result<(), NoMemory>
+        ensures { OnOk result (IsBegun self.old variables self.new) }
     {
-        match (parts.left.view(), parts.right.view()) {
-            (TermView::Var(left), TermView::Var(right)) => {
-                let below = self.pairs.len();
-                self.begun.push(Begun { left, right, below })?;
-                Ok(())
-            }
-            _ => Ok(()),
-        }
+        let Some((left, right)) = variables else {
+            return Ok(());
+        };
+        let below = self.pairs.len();
+        self.begun.push(Begun { left, right, below })?;
+        Ok(())
     }
 
     /// Takes a pair apart that was taken out, or answers two parts of it that differ at their roots.
@@ -109,15 +107,16 @@ impl<'a> Pending<'a> {
         ensures pairs { IfOk result (λ o. MatchOption o (IsTakenApart bindings.now self.old (seen parts.entry.left) (seen parts.entry.right) self.new) (λ d. AreApart bindings.now self.old (seen parts.entry.left) (seen parts.entry.right) self.new (seen d.left) (seen d.right))) }
         ensures kept { IfOk result (λ o. MatchOption o (IsKnown bindings.now self.new) (λ d. IsKnownWith bindings.now (seen d.left) (seen d.right) self.new)) }
     {
-        if self.are_equal(parts) {
+        let variables = parts.variables();
+        if self.are_equal(variables) {
             return Ok(None);
         }
         let left = bindings.resolve(parts.left);
         let right = bindings.resolve(parts.right);
-        if !alike(left, right) {
+        if !left.has_root_of(right) {
             return Ok(Some(Parts { left, right }));
         }
-        self.begin(parts)?;
+        self.begin(variables)?;
         push_arguments(&mut self.pairs, left, right)?;
         Ok(None)
     }

@@ -4,10 +4,10 @@ use Rattle.dps_terms.specs.Smaller.{argument_is_smaller}
 use Rattle.dps_unify.proofs.Matched.{refused_root, so_far_refused, so_far_more, so_far_end}
 use Rattle.dps_unify.proofs.matching.+extend_match.Goals as goal
 
-pub returns-then-not-alike : goal.returns-then-not-alike
-returns-then-not-alike t c =
+pub returns-then-not-has_root_of : goal.returns-then-not-has_root_of
+returns-then-not-has_root_of t c =
     refused_root c.args.free.now c.args.solution.now (seen c.args.pattern) (seen c.args.term)
-    (λ m e. c.in_default.not-Var m (c.view.ensures ∙ e)) (λ a. let m : false ≡ true = c.if-not-alike.ensures.1 a in cc)
+    (λ m e. c.in_default.not-Var m (c.view.ensures ∙ e)) (λ a. let m : false ≡ true = c.if-not-has_root_of.ensures.1 a in cc)
 
 pub extend_match-requires : goal.extend_match-requires
 extend_match-requires t c =
@@ -29,4 +29,4 @@ loop-index-preserved t c =
 pub returns : goal.returns
 returns t c =
     so_far_end c.args.free.now c.args.solution.now (seen c.args.pattern) (seen c.args.term) c.loop-index.solution c.loop-index.index c.loop-index.invariant
-    (λ m e. c.in_default.not-Var m (c.view.ensures ∙ e)) (c.if-not-alike.ensures.0 refl) (omega (arith, c.arity-index-end.ensures.number))
+    (λ m e. c.in_default.not-Var m (c.view.ensures ∙ e)) (c.if-not-has_root_of.ensures.0 refl) (omega (arith, c.arity-index-end.ensures.number))

@@ -1,5 +1,4 @@
-use Rattle.std.proofs.Common.{◌≡◌, ◌∙◌, ℕ, slice_get, Some, sym, ap, arith}
-use Rattle.dps_terms.specs.Tree.{Tree}
+use Rattle.std.proofs.Common.{◌≡◌, ◌∙◌, slice_get, Some, sym, ap, arith}
 use Rattle.dps_terms.proofs.Bound.{unbound_before, copied_more}
 use Rattle.dps_terms.proofs.subst.Subst.copy.Goals as goal
 use Rattle.dps_terms.proofs.subst.Subst.copy.Goals.{in-Some+in_ok-copy+in_ok-bind, in_default}
