@@ -16,7 +16,7 @@ use Rattle.dps_theory.specs.Checking.{numbered_rule, HasForm, IsFault, AreAccept
 use Rattle.dps_theory.specs.Judging.{AreJudged, AgreeBefore, IsOverlapBefore}
 use Rattle.dps_theory.specs.declared.check.TheoryRefusal.{TheoryRefusal}
 use Rattle.dps_theory.specs.declared.check.TheoryRefusal.TheVariants.{RootNotDestructor, ArgumentNotConstructor, RightNotConstructor, NotSubterm, Overlap, Memory}
-use Rattle.dps_theory.proofs.Forms.{leaf_is_no_app}
+use Rattle.dps_terms.proofs.Arguments.{leaf_is_no_app}
 use Rattle.dps_theory.proofs.Agreeing.{agrees_itself}
 use Rattle.dps_theory.proofs.Walking.{slice_get-take, Walk, walk_within, walk_agrees, walk_on, walk_end}
 
@@ -174,7 +174,7 @@ module _ (shapes : List Shape) (rules : List Rule) where
 
 -- the root that a view shows
 pub root_from_view : (t : Tree) (f : Sym) → App f ≡ view_of t → has_root f.number t ≡ true
-root_from_view (leaf x) f e = absurd (leaf_is_no_app x f e)
+root_from_view (leaf x) f e = absurd (leaf_is_no_app x f (sym e))
 root_from_view (app g ts) f e = let d : g ≡ f = cc in eq-eqb g.number f.number (ap (λ s. s.number) d)
 
 pub root_within : (shapes : List Shape) (t : Tree) (f : Sym) → App f ≡ view_of t → HasDestructorRoot shapes t → f.number < length shapes

@@ -11,6 +11,7 @@ use Rattle.dps_terms.specs.Tree.{Leaf, public, private, var, ax, entry, rigid, T
 use Rattle.dps_terms.specs.Views.{view_of, arguments}
 use Rattle.dps_terms.specs.Signature.{Shape, HasShape}
 use Rattle.dps_terms.specs.Kinds.{IsBuiltOf, AreBuiltOf, AnyLeaf, AnySymbol, IsNoVariable, IsClosed, IsConstructorTerm}
+use Rattle.dps_terms.proofs.Arguments.{leaf_is_no_app}
 use Rattle.dps_theory.specs.Theory.{HasDestructorRoot, HasConstructorArguments}
 
 -- P holds of the first i arguments
@@ -34,14 +35,6 @@ module _ (P : Tree → Type 0) (t : Tree) where
 pub count-list_of : (ts : Trees) → count ts ≡ length (list_of ts)
 count-list_of none = refl
 count-list_of (more t ts) = omega (arith, count-list_of ts)
-
-pub leaf_is_no_app : (x : Leaf) (f : Sym) → App f ≡ view_of (leaf x) → ⊥
-leaf_is_no_app (public m) f e = cc
-leaf_is_no_app (private m) f e = cc
-leaf_is_no_app (var m) f e = cc
-leaf_is_no_app (ax m) f e = cc
-leaf_is_no_app (entry m) f e = cc
-leaf_is_no_app (rigid m) f e = cc
 
 -- what each argument is built of
 module _ (L : Leaf → Type 0) (S : Sym → ℕ → Type 0) where
@@ -72,7 +65,7 @@ module _ (known : List Shape) where
       )
 
   pub constructor_app : (t : Tree) (f : Sym) (n : ℕ) → App f ≡ view_of t → n ≡ length (arguments t) → (HasShape known Constructor f n × HasConstructorArguments known t) ↔ IsConstructorTerm known t
-  constructor_app (leaf x) f n e d = absurd (leaf_is_no_app x f e)
+  constructor_app (leaf x) f n e d = absurd (leaf_is_no_app x f (sym e))
   constructor_app (app g ts) f n e d =
       let same : f ≡ g = cc in
       let s = shape_here Constructor f g ts n same d in (λ h. (s.0 h.0, h.1), λ h. (s.1 h.0, h.1))
@@ -83,7 +76,7 @@ module _ (known : List Shape) where
 
   -- the root
   pub destructor_root : (t : Tree) (f : Sym) (n : ℕ) → App f ≡ view_of t → n ≡ length (arguments t) → HasShape known Destructor f n ↔ HasDestructorRoot known t
-  destructor_root (leaf x) f n e d = absurd (leaf_is_no_app x f e)
+  destructor_root (leaf x) f n e d = absurd (leaf_is_no_app x f (sym e))
   destructor_root (app g ts) f n e d = let same : f ≡ g = cc in shape_here Destructor f g ts n same d
 
   pub no_destructor_root : (t : Tree) → ((f : Sym) → view_of t ≡ App f → ⊥) → ¬ HasDestructorRoot known t

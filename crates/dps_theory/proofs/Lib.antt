@@ -8,6 +8,7 @@ pub mod Encryption
 pub mod Hiding
 pub mod Symbols
 pub mod Forms
+pub mod CheckableRules
 pub mod Overlapping
 pub mod Walking
 pub mod Agreeing

@@ -8,6 +8,7 @@ pub mod Held
 pub mod Overlaps
 pub mod Index
 pub mod Checking
+pub mod Checkable
 pub mod Judging
 pub mod Projections
 pub mod Conditions

@@ -7,6 +7,7 @@
 #![tactic(auto)]
 
 mod check;
+mod checkable;
 pub mod examples;
 mod form;
 mod index;
@@ -20,6 +21,7 @@ mod tests;
 mod theory;
 
 pub use check::TheoryRefusal;
+pub use checkable::are_checkable;
 pub use rule::Rule;
 pub use theory::Theory;
 
