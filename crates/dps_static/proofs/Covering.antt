@@ -1,8 +1,7 @@
--- The substitutions that are found for a pattern are all that matter.
-use Rattle.std.proofs.Common.{◌≡◌, ℕ, zero, suc, List, ◌++◌, length, slice_get, unwrap_or, Some, None, refl, sym, ◌∙◌, ap, subst, arith, inl, inr}
+-- What is built from kept trees, and which substitutions settle a pattern.
+use Rattle.std.proofs.Common.{◌≡◌, ℕ, zero, suc, ◌+◌, List, length, slice_get, unwrap_or, Some, None, refl, sym, ◌∙◌, ap, subst, arith, inl, inr}
 use Rattle.std.specs.Prelude.{◌⊎◌, Option, Contains}
-use Rattle.std.proofs.lemmas.List.Elements.{Contains-append_left, Contains-append_right}
-use Rattle.std.proofs.lemmas.Option.{slice_get_within, get_or_from_slice_get}
+use Rattle.std.proofs.lemmas.Option.{slice_get_within}
 use Rattle.dps_terms.specs.declared.Sym.{Sym}
 use Rattle.dps_terms.specs.declared.PublicName.{PublicName}
 use Rattle.dps_terms.specs.Tree.{Leaf, public, private, var, ax, entry, rigid, Tree, Trees, leaf, app, none, more, StandsIn, IsAmong, below, in_first, in_rest}
@@ -14,8 +13,8 @@ use Rattle.dps_terms.proofs.Building.{leaf_meets}
 use Rattle.dps_unify.specs.Matching.{Agrees}
 use Rattle.dps_unify.proofs.Trees.{in_leaf}
 use Rattle.dps_static.specs.Ways.{IsOpenWay}
-use Rattle.dps_static.specs.Generic.{IsBuilt, AreBuilt, IsNoRigidLeaf, HasNoRigidName, generic, filled, Extends, IsBoundBy, IsSettled, AreSettled, IsFound, Covers, CoversAll, CoversEntries}
-use Rattle.dps_static.proofs.Ways.{AreOpenWays, there-numbered}
+use Rattle.dps_static.specs.Generic.{IsBuilt, AreBuilt, IsNoRigidLeaf, HasNoRigidName, generic, filled, Extends, IsBoundBy, IsSettled, AreSettled, IsFound}
+use Rattle.dps_static.proofs.Ways.{AreOpenWays, numbered-there, there-numbered}
 
 -- a tree without rigid names is left by filling
 pub filled_stays : (z : ℕ → Tree) (t : Tree) → HasNoRigidName t → filled z t ≡ t
@@ -84,12 +83,17 @@ module _ (kept : List Tree) where
   pub kept_or_built : (f : Sym) (ts : Trees) → IsBuilt kept (app f ts) → ((k : ℕ) × (slice_get kept k ≡ Some (app f ts))) ⊎ AreBuilt kept ts
   kept_or_built f ts b = way_root f ts b.way b.is_way b.gives
 
+pub kept_built : (kept : List Tree) (k : ℕ) (t : Tree) → slice_get kept k ≡ Some t → IsBuilt kept t
+kept_built kept k t e =
+    let l = slice_get_within kept k t e in
+    record { way = leaf (entry (k + 1)); is_way = ((omega arith, omega (arith, l)), tt); gives = entry_is (k + 1) (omega arith) }
+  where
+    entry_is : (i : ℕ) → i ≡ k + 1 → put_entries kept (leaf (entry i)) ≡ t
+    entry_is i m = subst (λ j. put_entries kept (leaf (entry j)) ≡ t) (let n : suc k ≡ i = omega (arith, m) in n) (numbered-there kept k t (leaf (entry (suc k))) e)
+
 -- leaves below a root
 in_variable : (n m : ℕ) → StandsIn (var m) (leaf (var n)) → m ≡ n
 in_variable n m k = let e = in_leaf (var n) (leaf (var m)) k in cc
-
-not_in_public : (a : PublicName) (m : ℕ) → StandsIn (var m) (leaf (public a)) → ⊥
-not_in_public a m k = let e = in_leaf (public a) (leaf (var m)) k in cc
 
 below_app : (f : Sym) (ps : Trees) (n : ℕ) → StandsIn (var n) (app f ps) → IsAmong (leaf (var n)) ps
 below_app f ps n (below k) = k
@@ -127,8 +131,20 @@ module _ (kept : List Tree) (z : ℕ → Tree) where
       open_built q a (Some t) e = subst (IsBuilt kept) (a n t e) b
       open_built q a None e = built_rigid kept n
 
-  settled_public : (s : List (ℕ × Tree)) (a : PublicName) → IsSettled kept z s (leaf (public a))
-  settled_public s a = record { built = λ q e g. built_public kept a; variables = λ m k. absurd (not_in_public a m k) }
+  -- a leaf that is no variable is itself in every instance
+  settled_fixed : (s : List (ℕ × Tree)) (x : Leaf) → ((y : ℕ → Tree) → substitute y (leaf x) ≡ leaf x) → ((n : ℕ) → leaf (var n) ≡ leaf x → ⊥) → IsBuilt kept (substitute z (leaf x)) → IsSettled kept z s (leaf x)
+  settled_fixed s x fixed other b = record {
+    built = λ q e g. subst (IsBuilt kept) (fixed z ∙ sym (fixed (generic q))) b;
+    variables = λ n k. absurd (other n (in_leaf x (leaf (var n)) k));
+  }
+
+  pub settled_leaf : (s : List (ℕ × Tree)) (x : Leaf) → IsBuilt kept (substitute z (leaf x)) → IsSettled kept z s (leaf x)
+  settled_leaf s (var n) b = settled_variable s n b
+  settled_leaf s (public a) b = settled_fixed s (public a) (λ y. refl) (λ n e. cc) b
+  settled_leaf s (private n) b = settled_fixed s (private n) (λ y. refl) (λ m e. cc) b
+  settled_leaf s (ax n) b = settled_fixed s (ax n) (λ y. refl) (λ m e. cc) b
+  settled_leaf s (entry n) b = settled_fixed s (entry n) (λ y. refl) (λ m e. cc) b
+  settled_leaf s (rigid n) b = settled_fixed s (rigid n) (λ y. refl) (λ m e. cc) b
 
   parts_built : (s q : List (ℕ × Tree)) → Extends s q → Agrees z q → (ps : Trees) → AreSettled kept z s ps → AreBuilt kept (substitute_all (generic q) ps)
   parts_built s q e a none h = tt
@@ -142,13 +158,13 @@ module _ (kept : List Tree) (z : ℕ → Tree) where
   pub settled_built : (s : List (ℕ × Tree)) → Agrees z s → (ps : Trees) → AreSettled kept z s ps → AreBuilt kept (substitute_all (generic s) ps)
   settled_built s a ps h = parts_built s s (record { keeps = λ n t e. e }) a ps h
 
-  settled_root : (s : List (ℕ × Tree)) (f : Sym) (ps : Trees) → AreSettled kept z s ps → IsSettled kept z s (app f ps)
+  pub settled_root : (s : List (ℕ × Tree)) (f : Sym) (ps : Trees) → AreSettled kept z s ps → IsSettled kept z s (app f ps)
   settled_root s f ps h = record {
     built = λ q e a. built_root kept f (substitute_all (generic q) ps) (parts_built s q e a ps h);
     variables = λ n k. parts_variables s ps h n (below_app f ps n k);
   }
 
-  settled_entry : (s : List (ℕ × Tree)) (p : Tree) → IsBuilt kept (substitute z p) → ((n : ℕ) → StandsIn (var n) p → IsBoundBy s n) → IsSettled kept z s p
+  pub settled_entry : (s : List (ℕ × Tree)) (p : Tree) → IsBuilt kept (substitute z p) → ((n : ℕ) → StandsIn (var n) p → IsBoundBy s n) → IsSettled kept z s p
   settled_entry s p b h = record {
     built = λ q e a. subst (IsBuilt kept) (sym (generic_bound z q p a (λ n k. let c = h n k in (c.0, e.keeps n c.0 c.1)))) b;
     variables = λ n k. inl (h n k);
@@ -160,56 +176,5 @@ module _ (kept : List Tree) (z : ℕ → Tree) where
     variables = λ n k. elim (h.variables n k) [ inl c ↦ inl (c.0, e.keeps n c.0 c.1) | inr b ↦ inr b ];
   }
 
-kept_contains : (kept : List Tree) (k : ℕ) (t : Tree) → slice_get kept k ≡ Some t → Contains kept t
-kept_contains kept k t e = (k, slice_get_within kept k t e, get_or_from_slice_get kept k t t e)
-
-module _ (kept : List Tree) where
-  pub found_now : (z : ℕ → Tree) (s : List (ℕ × Tree)) (start : List (List (ℕ × Tree))) (Wanted : List (ℕ × Tree) → Type 0) → Contains start s → Agrees z s → Wanted s → IsFound z s start Wanted
-  found_now z s start Wanted h a w = record { by = s; listed = h; extends = record { keeps = λ n t e. e }; agrees = a; wanted = w }
-
-  pub covers_variable : (n : ℕ) (start : List (List (ℕ × Tree))) → Covers kept (leaf (var n)) start start
-  covers_variable n start = record { covers = λ z s h a b. found_now z s start _ h a (settled_variable kept z s n b) }
-
-  pub covers_public : (a : PublicName) (start : List (List (ℕ × Tree))) → Covers kept (leaf (public a)) start start
-  covers_public a start = record { covers = λ z s h g b. found_now z s start _ h g (settled_public kept z s a) }
-
-  pub covers_none : (start : List (List (ℕ × Tree))) → CoversAll kept none start start
-  covers_none start = record { covers = λ z s h a b. found_now z s start _ h a tt }
-
-  pub covers_more : (p : Tree) (ps : Trees) (start middle end : List (List (ℕ × Tree))) → Covers kept p start middle → CoversAll kept ps middle end → CoversAll kept (more p ps) start end
-  covers_more p ps start middle end one rest = record {
-    covers = λ z s h a b.
-        let d = one.covers z s h a b.0 in
-        let k = rest.covers z d.by d.listed d.agrees b.1 in
-        record {
-          by = k.by;
-          listed = k.listed;
-          extends = extends_in_turn s d.by k.by d.extends k.extends;
-          agrees = k.agrees;
-          wanted = (settled_later kept z d.by k.by p k.extends d.wanted, k.wanted);
-        };
-  }
-
-  pub covers_app : (f : Sym) (ps : Trees) (start entries rest : List (List (ℕ × Tree))) → CoversEntries kept (app f ps) start entries → CoversAll kept ps start rest → Covers kept (app f ps) start (entries ++ rest)
-  covers_app f ps start entries rest one all = record { covers = λ z s h a b. by_root z s h a b (kept_or_built kept f (substitute_all z ps) b) }
-    where
-      by_root : (z : ℕ → Tree) (s : List (ℕ × Tree)) → Contains start s → Agrees z s → IsBuilt kept (app f (substitute_all z ps)) → ((k : ℕ) × (slice_get kept k ≡ Some (app f (substitute_all z ps)))) ⊎ AreBuilt kept (substitute_all z ps) → IsFound z s (entries ++ rest) (λ q. IsSettled kept z q (app f ps))
-      by_root z s h a b (inl at) =
-          let there = kept_contains kept at.0 (app f (substitute_all z ps)) at.1 in
-          let d = one.covers z s h a there in
-          record {
-            by = d.by;
-            listed = Contains-append_left entries rest d.by d.listed;
-            extends = d.extends;
-            agrees = d.agrees;
-            wanted = settled_entry kept z d.by (app f ps) b d.wanted;
-          }
-      by_root z s h a b (inr parts) =
-          let d = all.covers z s h a parts in
-          record {
-            by = d.by;
-            listed = Contains-append_right entries rest d.by d.listed;
-            extends = d.extends;
-            agrees = d.agrees;
-            wanted = settled_root kept z d.by f ps d.wanted;
-          }
+pub found_now : (z : ℕ → Tree) (s : List (ℕ × Tree)) (start : List (List (ℕ × Tree))) (Wanted : List (ℕ × Tree) → Type 0) → Contains start s → Agrees z s → Wanted s → IsFound z s start Wanted
+found_now z s start Wanted h a w = record { by = s; listed = h; extends = record { keeps = λ n t e. e }; agrees = a; wanted = w }

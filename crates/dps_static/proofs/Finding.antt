@@ -1,7 +1,7 @@
 -- What matching against all kept trees finds.
-use Rattle.std.proofs.Common.{◌≡◌, ℕ, List, [], ◌∷◌, ◌++◌, slice_get, unwrap_or, Option, Some, None, refl, sym, ◌∙◌, ap, subst, inl, inr}
+use Rattle.std.proofs.Common.{◌≡◌, ℕ, List, [], ◌∷◌, ◌++◌, slice_get, get_or, unwrap_or, Option, Some, None, refl, sym, ◌∙◌, ap, subst, inl, inr}
 use Rattle.std.specs.Prelude.{◌⊎◌, All, Contains}
-use Rattle.std.proofs.lemmas.List.Elements.{All-contains, Contains-append_left, Contains-push}
+use Rattle.std.proofs.lemmas.List.Elements.{All-contains, Contains-get_or, Contains-append_left, Contains-append_right, Contains-push}
 use Rattle.dps_terms.specs.declared.Sym.{Sym}
 use Rattle.dps_terms.specs.declared.borrowed.TermView.TheVariants.{App, Var}
 use Rattle.dps_terms.specs.Tree.{Tree, leaf, app, var, StandsIn, IsSubterm}
@@ -11,18 +11,13 @@ use Rattle.dps_terms.specs.Bindings.{bound, image}
 use Rattle.dps_terms.proofs.Replacing.{keeps_subterms}
 use Rattle.dps_unify.specs.Matching.{Keeps, Agrees, Matched, Refused}
 use Rattle.dps_recipes.proofs.Fitting.{restricted, restricted_at, restricted_cases}
-use Rattle.dps_static.specs.Generic.{CoversEntries, IsFound, IsBoundBy}
-use Rattle.dps_static.specs.Binding.{BindsParts, IsPartOf, IsRooted, HasFreeVariables}
+use Rattle.dps_static.specs.Generic.{IsFound, IsBoundBy}
+use Rattle.dps_static.specs.Cuts.{IsKeptWithin, CoversEntries}
+use Rattle.dps_static.specs.Binding.{BindsParts, IsPartOf, IsRooted, HasFreeVariables, IsMatchListed, AreMatches}
 use Rattle.dps_static.proofs.Ways.{no_app_leaf}
 use Rattle.dps_static.proofs.Covering.{same_instances}
 
--- a match of the pattern with the tree is listed
-pub record IsMatchListed (free : List ℕ) (p : Tree) (found : List (List (ℕ × Tree))) (s : List (ℕ × Tree)) (t : Tree) : Type 0 where
-  pub by : List (ℕ × Tree)
-  pub listed : Contains found by
-  pub matched : Matched free s p t by
-
--- or there is none
+-- a match of the pattern with the tree is listed, or there is none
 abbrev pub IsListed : List ℕ → Tree → List (List (ℕ × Tree)) → List (ℕ × Tree) → Tree → Type 0
 IsListed free p found s t = Refused free s p t ⊎ IsMatchListed free p found s t
 
@@ -34,12 +29,20 @@ module _ (free : List ℕ) (p : Tree) where
   pub listed_new : (found : List (List (ℕ × Tree))) (q s : List (ℕ × Tree)) (t : Tree) → Matched free s p t q → IsListed free p (found ++ q ∷ []) s t
   listed_new found q s t m = inr (record { by = q; listed = Contains-push found q; matched = m })
 
+  pub listed_left : (found more : List (List (ℕ × Tree))) (s : List (ℕ × Tree)) (t : Tree) → IsListed free p found s t → IsListed free p (found ++ more) s t
+  listed_left found more s t (inl r) = inl r
+  listed_left found more s t (inr m) = inr (record { by = m.by; listed = Contains-append_left found more m.by m.listed; matched = m.matched })
+
+  pub listed_right : (found more : List (List (ℕ × Tree))) (s : List (ℕ × Tree)) (t : Tree) → IsListed free p more s t → IsListed free p (found ++ more) s t
+  listed_right found more s t (inl r) = inl r
+  listed_right found more s t (inr m) = inr (record { by = m.by; listed = Contains-append_right found more m.by m.listed; matched = m.matched })
+
 -- substitutions that change free variables alone
 restricted_keeps : (free : List ℕ) (z : ℕ → Tree) → Keeps free (restricted free z)
 restricted_keeps free z n h = elim (restricted_cases free z n) [ inl c ↦ absurd (h c.0) | inr e ↦ e ]
 
 module _ (kept : List Tree) (free : List ℕ) (p : Tree) (frees : HasFreeVariables free p) where
-  module _ (start found : List (List (ℕ × Tree))) (parts : All (BindsParts kept free) start) (listed : (s : List (ℕ × Tree)) (t : Tree) → Contains start s → Contains kept t → IsListed free p found s t) where
+  module _ (first last : ℕ) (start found : List (List (ℕ × Tree))) (parts : All (BindsParts kept free) start) (listed : (s : List (ℕ × Tree)) (t : Tree) → Contains start s → IsKeptWithin kept first last t → IsListed free p found s t) where
     module _ (z : ℕ → Tree) (s : List (ℕ × Tree)) (h : Contains start s) (a : Agrees z s) where
       abbrev y : ℕ → Tree
       y = restricted free z
@@ -72,7 +75,7 @@ module _ (kept : List Tree) (free : List ℕ) (p : Tree) (frees : HasFreeVariabl
       by_listed (inl r) = absurd (r y (restricted_keeps free z) y_agrees y_matches)
       by_listed (inr m) = by_match m
 
-    pub entries_cover : CoversEntries kept p start found
+    pub entries_cover : CoversEntries kept first last p start found
     entries_cover = record { covers = λ z s h a c. by_listed z s h a (listed s (substitute z p) h c) }
 
   -- what a match binds is a part of the tree
@@ -107,6 +110,12 @@ module _ (kept : List Tree) (free : List ℕ) (p : Tree) (frees : HasFreeVariabl
 
     pub match_binds : BindsParts kept free q
     match_binds = record { parts = match_part; frees = match_free }
+
+  -- and so do all matches
+  pub matches_bind : (start found : List (List (ℕ × Tree))) (k : ℕ) (t : Tree) → slice_get kept k ≡ Some t → All (BindsParts kept free) start → AreMatches free p t start found → All (BindsParts kept free) found
+  matches_bind start found k t there parts matches = λ i d l.
+      let m = matches.only (get_or found i d) (Contains-get_or found i d l) in
+      match_binds m.start (All-contains (BindsParts kept free) start m.start parts m.listed) k t there (get_or found i d) m.matched
 
 pub binds_nothing : (kept : List Tree) (free : List ℕ) → BindsParts kept free []
 binds_nothing kept free = record { parts = λ n t e. cc; frees = λ n t e. cc }

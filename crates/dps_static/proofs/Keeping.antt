@@ -24,7 +24,7 @@ use Rattle.dps_static.specs.Ways.{AnyName, IsWay, IsOpenWay, Composes}
 use Rattle.dps_static.specs.Generic.{IsBuilt, IsNoRigidLeaf, HasNoRigidName, HaveNoRigidName, generic, filled, all_filled}
 use Rattle.dps_static.specs.Binding.{IsPartOf, BindsParts}
 use Rattle.dps_static.specs.Saturation.{own_name, IsCleanFrame, AreValuesOf, IsCommonSignature, IsPossible, AreKnown}
-use Rattle.dps_static.specs.Ending.{IsUse}
+use Rattle.dps_static.specs.Ending.{GivesNew}
 use Rattle.dps_static.proofs.Ways.{AreOpenWays, put_all, numbered-there, IsAppWay, composed_app}
 use Rattle.dps_static.proofs.Covering.{built_public, built_rigid, filled_stays}
 use Rattle.dps_static.proofs.Stepping.{put_filled, put_all_filled}
@@ -98,7 +98,7 @@ module _ (theory : Theory) (accepted : IsAccepted theory) (plain : HasPlainRules
   has_root rule listed = rooted theory rule.left (accepted.root rule listed) (accepted.arguments rule listed)
 
   -- a use of a rule as a symbol over ways
-  module _ (recipes kept : List Tree) (rule : Rule) (listed : HasRule theory rule) (r v : Tree) (made : IsUse rule recipes kept r v) where
+  module _ (recipes kept : List Tree) (rule : Rule) (listed : HasRule theory rule) (r v : Tree) (made : GivesNew rule recipes kept r v) where
     abbrev root : HasRoot theory rule.left
     root = has_root rule listed
 
@@ -255,7 +255,7 @@ module _ (theory : Theory) (accepted : IsAccepted theory) (plain : HasPlainRules
   possible_over signature c t (inl m) = built_subterm (IsLeafOver signature) (HasArity (shapes signature)) (message_over signature frame c.is_frame m.place m.whole m.there) m.within
   possible_over signature c t (inr g) = built_subterm (IsLeafOver signature) (HasArity (shapes signature)) (let o = c.rules_over g.rule g.listed in o.1) g.within
 
-  module _ (recipes kept : List Tree) (possible : (k : ℕ) (t : Tree) → slice_get kept k ≡ Some t → IsPossible theory frame t) (rule : Rule) (listed : HasRule theory rule) (r v : Tree) (made : IsUse rule recipes kept r v) where
+  module _ (recipes kept : List Tree) (possible : (k : ℕ) (t : Tree) → slice_get kept k ≡ Some t → IsPossible theory frame t) (rule : Rule) (listed : HasRule theory rule) (r v : Tree) (made : GivesNew rule recipes kept r v) where
     abbrev by : ℕ → Tree
     by = generic made.by
 

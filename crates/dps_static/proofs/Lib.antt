@@ -8,13 +8,12 @@ pub mod Moving
 pub mod Opening
 pub mod Carrying
 pub mod Expanding
-pub mod Listing
+pub mod Cutting
 pub mod Closing
 pub mod Comparing
 pub mod Setting
 pub mod Renamed
 pub mod Telling
-pub mod Closed
 pub mod Reaching
 pub mod Numbers
 pub mod Carried

@@ -14,8 +14,9 @@ use Rattle.dps_theory.specs.Frames.{IsFrame}
 use Rattle.dps_theory.proofs.Evaluating.{plain_alone}
 use Rattle.dps_static.specs.Generic.{AreBuilt, HaveNoRigidName, generic, CoversAll}
 use Rattle.dps_static.specs.Handles.{handles}
-use Rattle.dps_static.specs.Uses.{IsNoUse, HasUse, AreUsesOf}
-use Rattle.dps_static.specs.Saturation.{IsCleanFrame, StartsWith, AreValuesOf, IsClosedUnder}
+use Rattle.dps_static.specs.Ways.{IsNotComposed}
+use Rattle.dps_static.specs.Uses.{HasUse, AreUsesOf}
+use Rattle.dps_static.specs.Saturation.{IsCleanFrame, StartsWith, AreValuesOf}
 use Rattle.dps_static.specs.Telling.{Passes, AllPass}
 use Rattle.dps_static.specs.Answer.{IsAtMost}
 use Rattle.dps_static.specs.declared.uses.RuleUse.{RuleUse}
@@ -23,7 +24,6 @@ use Rattle.dps_static.proofs.Frames.{handle_at}
 use Rattle.dps_static.proofs.Moving.{Moves, IsPassed, passed_by_one, passed_by_none}
 use Rattle.dps_static.proofs.Carrying.{IsRulePassed, ArePassed}
 use Rattle.dps_static.proofs.Comparing.{at_most}
-use Rattle.dps_static.proofs.Closed.{closed_done}
 use Rattle.dps_static.proofs.Setting.{IsSetting, clean_frame}
 use Rattle.dps_static.proofs.Ways.{AreOpenWays, put_all, trees-list_of}
 use Rattle.dps_static.proofs.Covering.{built_ways}
@@ -42,7 +42,7 @@ module _ (theory : Theory) (frame recipes values : List Tree) (m : ℕ) (is_m : 
       let is : v.tree ≡ t = plain_alone theory (subst (λ u. Evaluates theory u v.tree) to (are.values k (leaf (ax (suc k))) v.tree at v.there)) (clean.plain k t e) in
       v.there ∙ ap Some is
 
-module _ (signature : Signature) (theory : Theory) (setting : IsSetting signature theory) (first second : List Tree) (lengths : length first ≡ length second) (is_first : IsFrame signature first) (is_second : IsFrame signature second) (recipes kept : List Tree) (are_recipes : All (IsRecipe signature (length first)) recipes) (ours : AreValuesOf theory first recipes kept) (counterparts : List Tree) (theirs : AreValuesOf theory second recipes counterparts) (closed : IsClosedUnder theory kept) (uses : List RuleUse) (are_uses : AreUsesOf theory kept uses) (pass : AllPass theory kept counterparts uses) where
+module _ (signature : Signature) (theory : Theory) (setting : IsSetting signature theory) (first second : List Tree) (lengths : length first ≡ length second) (is_first : IsFrame signature first) (is_second : IsFrame signature second) (recipes kept : List Tree) (are_recipes : All (IsRecipe signature (length first)) recipes) (ours : AreValuesOf theory first recipes kept) (counterparts : List Tree) (theirs : AreValuesOf theory second recipes counterparts) (uses : List RuleUse) (are_uses : AreUsesOf theory kept uses) (pass : AllPass theory kept counterparts uses) where
   their_recipes : All (IsRecipe signature (length second)) recipes
   their_recipes = subst (λ n. All (IsRecipe signature n) recipes) lengths are_recipes
 
@@ -75,8 +75,8 @@ module _ (signature : Signature) (theory : Theory) (setting : IsSetting signatur
           reduces = subst (λ f. Reduces theory f (put_all counterparts i.ways) there) m (subst (λ ws. Reduces theory u.g (put_all counterparts ws) there) n r);
         }
 
-    no_use : IsNoUse kept rule s → AreBuilt kept (substitute_all (generic s) patterns) → ⊥
-    no_use (inl nothing) built =
+    no_use : IsNotComposed kept (substitute (generic s) rule.left) → AreBuilt kept (substitute_all (generic s) patterns) → ⊥
+    no_use nothing built =
         let h = built_ways kept (substitute_all (generic s) patterns) built in
         nothing (app g h.ways) (record {
           builds = record {
@@ -85,12 +85,8 @@ module _ (signature : Signature) (theory : Theory) (setting : IsSetting signatur
           };
           root = tt;
         })
-    no_use (inr nothing) built =
-        let h = built_ways kept (substitute_all (generic s) patterns) built in
-        let b = closed_done theory setting.plain setting.accepted kept low closed rule g patterns listed left s h.ways h.are_ways h.give in
-        nothing b.way (record { is_way = b.is_way; gives = b.gives })
 
-    use_passed : IsNoUse kept rule s ⊎ HasUse kept uses rule s → IsPassed theory kept counterparts g patterns rule.right s
+    use_passed : IsNotComposed kept (substitute (generic s) rule.left) ⊎ HasUse kept uses rule s → IsPassed theory kept counterparts g patterns rule.right s
     use_passed (inl nothing) = passed_by_none theory kept counterparts g patterns rule.right s (no_use nothing)
     use_passed (inr h) =
         let i = app_use kept rule g patterns s h.one left h.is_use in

@@ -39,5 +39,5 @@ module _ (theory : Theory) (accepted : IsAccepted theory) (plain : HasPlainRules
   told_refutes None h = λ signature common other.
       let setting = setting_of signature theory first accepted plain common in
       let clean = clean_over signature theory first common.same_symbols common.is_frame in
-      reaches signature theory setting first second lengths common.is_frame other.is_frame recipes kept (saturation.known.are_recipes signature common) (saturation.known.values clean) counterparts theirs saturation.closed uses are_uses h
+      reaches signature theory setting first second lengths common.is_frame other.is_frame recipes kept (saturation.known.are_recipes signature common) (saturation.known.values clean) counterparts theirs uses are_uses h
       saturation.known.starts saturation.known.handled

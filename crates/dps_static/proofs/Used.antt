@@ -1,115 +1,118 @@
--- All uses of the rules, found one by one.
-use Rattle.std.proofs.Common.{◌≡◌, ℕ, ◌+◌, ◌<◌, ◌≤◌, List, [], ◌∷◌, ◌++◌, length, slice_get, Some, sym, ◌∙◌, ap, subst, arith, inl, inr}
-use Rattle.std.specs.Prelude.{◌⊎◌, Contains, All}
-use Rattle.std.proofs.lemmas.Bool.{cases_lt}
-use Rattle.std.proofs.lemmas.List.Elements.{Contains-append_left, Contains-push, Contains-push_cases}
-use Rattle.std.proofs.lemmas.Option.{slice_get_within, slice_get-get_or, get_or_from_slice_get}
-use Rattle.dps_terms.specs.Tree.{Tree}
+-- Uses of the rules, and ways that wait, where more is kept.
+use Rattle.std.proofs.Common.{◌≡◌, ℕ, zero, suc, ◌<◌, ◌≤◌, List, [], ◌∷◌, ◌++◌, length, refl, sym, ◌∙◌, subst, arith, inl, inr}
+use Rattle.std.specs.Prelude.{Contains, All}
+use Rattle.std.proofs.lemmas.List.Elements.{Contains-push_cases, Contains-append_left}
+use Rattle.std.proofs.lemmas.Option.{slice_get_within, slice_get-get_or}
+use Rattle.dps_terms.specs.Tree.{Leaf, public, private, var, ax, entry, rigid, Tree, leaf}
+use Rattle.dps_terms.specs.Replace.{entries_to, put_entries}
 use Rattle.dps_terms.specs.Variables.{variables}
-use Rattle.dps_theory.specs.Theory.{Rule, Theory, HasRule}
-use Rattle.dps_static.specs.Binding.{BindsParts, CoversLeft}
-use Rattle.dps_static.specs.Uses.{IsUse, IsNoUse, IsUseOf, HasUse, HasRuleUses, AreUsesOf, AddsUses}
+use Rattle.dps_terms.specs.Kinds.{AnySymbol, IsKnowledgeLeaf}
+use Rattle.dps_terms.proofs.Replacing.{replace_agrees}
+use Rattle.dps_terms.proofs.Building.{built_weaker, leaf_meets}
+use Rattle.dps_theory.specs.Theory.{Rule, Theory}
+use Rattle.dps_static.specs.Ways.{AnyName, AnyRigid, IsOpenWay, Builds}
+use Rattle.dps_static.specs.Binding.{BindsParts}
+use Rattle.dps_static.specs.Saturation.{StartsWith}
+use Rattle.dps_static.specs.Uses.{IsUse, IsUseOf, HasUse, HasRuleUses}
+use Rattle.dps_static.specs.Asking.{IsAsked, UsesGrow}
 use Rattle.dps_static.specs.declared.uses.RuleUse.{RuleUse}
+use Rattle.dps_static.specs.declared.saturation.Asked.{Asked}
+use Rattle.dps_static.proofs.Ways.{numbered-there}
+use Rattle.dps_static.proofs.Finding.{binds_later}
+use Rattle.dps_static.proofs.Cutting.{covers_still}
 
--- the uses with the first n substitutions were added
-pub record AddsFirst (theory : Theory) (kept : List Tree) (rule : Rule) (found : List (List (ℕ × Tree))) (old new : List RuleUse) (n : ℕ) : Type 0 where
-  pub stay : (one : RuleUse) → Contains old one → Contains new one
-  pub each : (one : RuleUse) → Contains new one → Contains old one ⊎ IsUseOf theory kept one
-  pub has : (i : ℕ) (s : List (ℕ × Tree)) → i < n → slice_get found i ≡ Some s → IsNoUse kept rule s ⊎ HasUse kept new rule s
+abbrev pub Stay : List RuleUse → List RuleUse → Type 0
+Stay uses more = (one : RuleUse) → Contains uses one → Contains more one
 
-pub adds_none : (theory : Theory) (kept : List Tree) (rule : Rule) (found : List (List (ℕ × Tree))) (old : List RuleUse) → AddsFirst theory kept rule found old old 0
-adds_none theory kept rule found old = record { stay = λ one c. c; each = λ one c. inl c; has = λ i s h. absurd (omega (arith, h)) }
+pub starts_length : (kept more : List Tree) → StartsWith more kept → length kept ≤ length more
+starts_length [] more starts = omega arith
+starts_length (t ∷ ts) more starts =
+    let l : length ts < length (t ∷ ts) = omega arith in
+    let h = slice_get_within more (length ts) _ (starts (length ts) _ (slice_get-get_or (t ∷ ts) (length ts) t l)) in
+    omega (arith, h)
 
-at_place : (found : List (List (ℕ × Tree))) (n i : ℕ) (s q : List (ℕ × Tree)) → slice_get found n ≡ Some s → slice_get found i ≡ Some q → n ≡ i → s ≡ q
-at_place found n i s q e d m = let c : Some s ≡ Some q = sym e ∙ (ap (slice_get found) m ∙ d) in cc
+-- what is built is built where more is kept
+module _ (kept more : List Tree) (starts : StartsWith more kept) where
+  leaf_later : (x : Leaf) → IsKnowledgeLeaf AnyName AnyRigid (length kept) x → IsKnowledgeLeaf AnyName AnyRigid (length more) x
+  leaf_later (public a) h = h
+  leaf_later (private n) h = h
+  leaf_later (var n) h = h
+  leaf_later (ax n) h = h
+  leaf_later (rigid n) h = h
+  leaf_later (entry i) h = (h.0, let l = h.1 in omega (arith, l, starts_length kept more starts))
 
-pub adds_skipped : (theory : Theory) (kept : List Tree) (rule : Rule) (found : List (List (ℕ × Tree))) (old new : List RuleUse) (n : ℕ) (s : List (ℕ × Tree)) → slice_get found n ≡ Some s → IsNoUse kept rule s → AddsFirst theory kept rule found old new n → AddsFirst theory kept rule found old new (n + 1)
-adds_skipped theory kept rule found old new n s e no_use first = record {
-  stay = first.stay;
-  each = first.each;
-  has = λ i q h d. at i q d (cases_lt i n) h;
+  way_later : (way : Tree) → IsOpenWay (length kept) way → IsOpenWay (length more) way
+  way_later way h = (built_weaker (IsKnowledgeLeaf AnyName AnyRigid (length kept)) AnySymbol (IsKnowledgeLeaf AnyName AnyRigid (length more)) way h.0 leaf_later, h.1)
+
+  leaf_put : (x : Leaf) → IsKnowledgeLeaf AnyName AnyRigid (length kept) x → entries_to more x ≡ entries_to kept x
+  leaf_put (public a) h = refl
+  leaf_put (private n) h = refl
+  leaf_put (var n) h = refl
+  leaf_put (ax n) h = refl
+  leaf_put (rigid n) h = refl
+  leaf_put (entry zero) h = refl
+  leaf_put (entry (suc k)) h =
+      let l = h.1 in
+      let here = slice_get-get_or kept k (leaf (entry (suc k))) (omega (arith, l)) in
+      numbered-there more k _ (leaf (entry (suc k))) (starts k _ here) ∙ sym (numbered-there kept k _ (leaf (entry (suc k))) here)
+
+  put_later : (way : Tree) → IsOpenWay (length kept) way → put_entries more way ≡ put_entries kept way
+  put_later way h = replace_agrees (entries_to more) (entries_to kept) way (λ x k. leaf_put x (leaf_meets (IsKnowledgeLeaf AnyName AnyRigid (length kept)) AnySymbol h.0 k))
+
+  pub builds_later : (tree way : Tree) → Builds kept tree way → Builds more tree way
+  builds_later tree way b = record { is_way = way_later way b.is_way; gives = put_later way b.is_way ∙ b.gives }
+
+  pub use_later : (rule : Rule) (s : List (ℕ × Tree)) (one : RuleUse) → IsUse kept rule s one → IsUse more rule s one
+  use_later rule s one u = record {
+    composes = record { builds = builds_later _ one.left u.composes.builds; root = u.composes.root };
+    builds = builds_later _ one.right u.builds;
+  }
+
+  pub use_of_later : (theory : Theory) (one : RuleUse) → IsUseOf theory kept one → IsUseOf theory more one
+  use_of_later theory one u = record {
+    rule = u.rule;
+    listed = u.listed;
+    by = u.by;
+    parts = binds_later kept more (variables u.rule.left) u.by starts u.parts;
+    is_use = use_later u.rule u.by one u.is_use;
+  }
+
+  pub has_use_later : (uses more_uses : List RuleUse) (rule : Rule) (s : List (ℕ × Tree)) → Stay uses more_uses → HasUse kept uses rule s → HasUse more more_uses rule s
+  has_use_later uses more_uses rule s stay h = record { one = h.one; listed = stay h.one h.listed; is_use = use_later rule s h.one h.is_use }
+
+  pub parts_later : (rule : Rule) (found : List (List (ℕ × Tree))) → All (BindsParts kept (variables rule.left)) found → All (BindsParts more (variables rule.left)) found
+  parts_later rule found all = λ i d l. binds_later kept more (variables rule.left) _ starts (all i d l)
+
+  pub asked_later : (uses more_uses : List RuleUse) (rule : Rule) (asked : Asked) → Stay uses more_uses → IsAsked kept uses rule asked → IsAsked more more_uses rule asked
+  asked_later uses more_uses rule asked stay a = record {
+    within = let l = a.within in omega (arith, l, starts_length kept more starts);
+    found = a.found;
+    covers = covers_still kept asked.trees more rule.left a.found starts a.within a.covers;
+    each = λ s c. elim (a.each s c) [ inl w ↦ inl w | inr h ↦ inr (has_use_later uses more_uses rule s stay h) ];
+    parts = parts_later rule asked.waiting.items a.parts;
+  }
+
+-- where more uses are found
+pub rule_uses_stay : (kept : List Tree) (uses more_uses : List RuleUse) (rule : Rule) → Stay uses more_uses → HasRuleUses kept uses rule → HasRuleUses kept more_uses rule
+rule_uses_stay kept uses more_uses rule stay h = record {
+  found = h.found;
+  covers = h.covers;
+  uses_of = λ s c. elim (h.uses_of s c) [ inl n ↦ inl n | inr u ↦ inr (record { one = u.one; listed = stay u.one u.listed; is_use = u.is_use }) ];
 }
-  where
-    at : (i : ℕ) (q : List (ℕ × Tree)) → slice_get found i ≡ Some q → (i < n) ⊎ (n ≤ i) → i < n + 1 → IsNoUse kept rule q ⊎ HasUse kept new rule q
-    at i q d (inl l) h = first.has i q l d
-    at i q d (inr l) h = inl (subst (IsNoUse kept rule) (at_place found n i s q e d (omega (arith, l, h))) no_use)
 
-kept_use : (kept : List Tree) (rule : Rule) (s : List (ℕ × Tree)) (uses : List RuleUse) (one : RuleUse) → IsNoUse kept rule s ⊎ HasUse kept uses rule s → IsNoUse kept rule s ⊎ HasUse kept (uses ++ one ∷ []) rule s
-kept_use kept rule s uses one (inl no_use) = inl no_use
-kept_use kept rule s uses one (inr h) = inr (record { one = h.one; listed = Contains-append_left uses (one ∷ []) h.one h.listed; is_use = h.is_use })
+module _ (theory : Theory) where
+  pub uses_grow_none : (kept : List Tree) (uses : List RuleUse) → UsesGrow theory kept uses kept uses
+  uses_grow_none kept uses = record { stay = λ one c. c; each = λ h. h }
 
-pub adds_pushed : (theory : Theory) (kept : List Tree) (rule : Rule) (found : List (List (ℕ × Tree))) (old middle new : List RuleUse) (n : ℕ) (s : List (ℕ × Tree)) (one : RuleUse) → HasRule theory rule → slice_get found n ≡ Some s → BindsParts kept (variables rule.left) s → IsUse kept rule s one → new ≡ middle ++ one ∷ [] → AddsFirst theory kept rule found old middle n → AddsFirst theory kept rule found old new (n + 1)
-adds_pushed theory kept rule found old middle new n s one listed e parts is_use is first = subst (λ us. AddsFirst theory kept rule found old us (n + 1)) (sym is) (record {
-  stay = λ other c. Contains-append_left middle (one ∷ []) other (first.stay other c);
-  each = λ other c. of other (Contains-push_cases middle one other c);
-  has = λ i q h d. at i q d (cases_lt i n) h;
-})
-  where
-    of : (other : RuleUse) → Contains middle other ⊎ (one ≡ other) → Contains old other ⊎ IsUseOf theory kept other
-    of other (inl c) = first.each other c
-    of other (inr m) = inr (subst (IsUseOf theory kept) m (record { rule = rule; listed = listed; by = s; parts = parts; is_use = is_use }))
+  pub uses_grow_both : (k l m : List Tree) (u v w : List RuleUse) → UsesGrow theory k u l v → UsesGrow theory l v m w → UsesGrow theory k u m w
+  uses_grow_both k l m u v w a b = record { stay = λ one c. b.stay one (a.stay one c); each = λ h. b.each (a.each h) }
 
-    at : (i : ℕ) (q : List (ℕ × Tree)) → slice_get found i ≡ Some q → (i < n) ⊎ (n ≤ i) → i < n + 1 → IsNoUse kept rule q ⊎ HasUse kept (middle ++ one ∷ []) rule q
-    at i q d (inl l) h = kept_use kept rule q middle one (first.has i q l d)
-    at i q d (inr l) h =
-        inr (subst (HasUse kept (middle ++ one ∷ []) rule) (at_place found n i s q e d (omega (arith, l, h)))
-        (record { one = one; listed = Contains-push middle one; is_use = is_use }))
-
-pub bound_parts : (kept : List Tree) (rule : Rule) (found : List (List (ℕ × Tree))) (n : ℕ) (s : List (ℕ × Tree)) → slice_get found n ≡ Some s → All (BindsParts kept (variables rule.left)) found → BindsParts kept (variables rule.left) s
-bound_parts kept rule found n s e all = subst (BindsParts kept (variables rule.left)) (get_or_from_slice_get found n s s e) (all n s (slice_get_within found n s e))
-
-pub adds_all : (theory : Theory) (kept : List Tree) (rule : Rule) (found : List (List (ℕ × Tree))) (old new : List RuleUse) (n : ℕ) → length found ≤ n → CoversLeft kept rule.left found → AddsFirst theory kept rule found old new n → AddsUses theory kept rule old new
-adds_all theory kept rule found old new n h covers first = record {
-  stay = first.stay;
-  each = first.each;
-  has = record {
-    found = found;
-    covers = covers;
-    uses_of = λ s c. (let l = c.1 in first.has c.0 s (omega (arith, l, h)) (slice_get-get_or found c.0 s l ∙ ap Some c.2));
-  };
-}
-
--- the uses of the first n rules
-pub record AreUsesFirst (theory : Theory) (kept : List Tree) (rules : List Rule) (uses : List RuleUse) (n : ℕ) : Type 0 where
-  pub each : (one : RuleUse) → Contains uses one → IsUseOf theory kept one
-  pub all : (i : ℕ) (rule : Rule) → i < n → slice_get rules i ≡ Some rule → HasRuleUses kept uses rule
-
-pub uses_none : (theory : Theory) (kept : List Tree) (rules : List Rule) → AreUsesFirst theory kept rules [] 0
-uses_none theory kept rules = record { each = λ one c. absurd (let l = c.1 in omega (arith, l)); all = λ i rule h. absurd (omega (arith, h)) }
-
-stays : (kept : List Tree) (rule : Rule) (old new : List RuleUse) → ((one : RuleUse) → Contains old one → Contains new one) → HasRuleUses kept old rule → HasRuleUses kept new rule
-stays kept rule old new stay h = record { found = h.found; covers = h.covers; uses_of = λ s c. of s (h.uses_of s c) }
-  where
-    of : (s : List (ℕ × Tree)) → IsNoUse kept rule s ⊎ HasUse kept old rule s → IsNoUse kept rule s ⊎ HasUse kept new rule s
-    of s (inl no_use) = inl no_use
-    of s (inr u) = inr (record { one = u.one; listed = stay u.one u.listed; is_use = u.is_use })
-
-pub uses_next : (theory : Theory) (kept : List Tree) (rules : List Rule) (old new : List RuleUse) (n : ℕ) (rule : Rule) → slice_get rules n ≡ Some rule → AddsUses theory kept rule old new → AreUsesFirst theory kept rules old n → AreUsesFirst theory kept rules new (n + 1)
-uses_next theory kept rules old new n rule e added first = record {
-  each = λ one c. of one (added.each one c);
-  all = λ i other h d. at i other d (cases_lt i n) h;
-}
-  where
-    of : (one : RuleUse) → Contains old one ⊎ IsUseOf theory kept one → IsUseOf theory kept one
-    of one (inl c) = first.each one c
-    of one (inr u) = u
-
-    at : (i : ℕ) (other : Rule) → slice_get rules i ≡ Some other → (i < n) ⊎ (n ≤ i) → i < n + 1 → HasRuleUses kept new other
-    at i other d (inl l) h = stays kept other old new added.stay (first.all i other l d)
-    at i other d (inr l) h =
-        let m : n ≡ i = omega (arith, l, h) in
-        let c : Some rule ≡ Some other = sym e ∙ (ap (slice_get rules) m ∙ d) in
-        let same : rule ≡ other = cc in
-        subst (HasRuleUses kept new) same added.has
-
-pub rule_listed : (theory : Theory) (rules : List Rule) (n : ℕ) (rule : Rule) → rules ≡ theory.rules → slice_get rules n ≡ Some rule → HasRule theory rule
-rule_listed theory rules n rule same e = subst (λ rs. Contains rs rule) same (n, slice_get_within rules n rule e, get_or_from_slice_get rules n rule rule e)
-
-pub uses_all : (theory : Theory) (kept : List Tree) (rules : List Rule) (uses : List RuleUse) (n : ℕ) → rules ≡ theory.rules → length rules ≤ n → AreUsesFirst theory kept rules uses n → AreUsesOf theory kept uses
-uses_all theory kept rules uses n same h first = record {
-  each = first.each;
-  all = λ rule listed.
-      let c = subst (λ rs. Contains rs rule) (sym same) listed in
-      let l = c.1 in
-      first.all c.0 rule (omega (arith, l, h)) (slice_get-get_or rules c.0 rule l ∙ ap Some c.2);
-}
+  pub uses_grow_push : (kept more : List Tree) (uses : List RuleUse) (one : RuleUse) → StartsWith more kept → IsUseOf theory more one → UsesGrow theory kept uses more (uses ++ one ∷ [])
+  uses_grow_push kept more uses one starts is_use = record {
+    stay = λ other c. Contains-append_left uses (one ∷ []) other c;
+    each = λ h other c.
+        elim (Contains-push_cases uses one other c) [
+          | inl d ↦ use_of_later kept more starts theory other (h other d)
+          | inr m ↦ subst (IsUseOf theory more) m is_use
+        ];
+  }

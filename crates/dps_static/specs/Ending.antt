@@ -1,15 +1,14 @@
 -- Why keeping ends: each tree that is kept is one of finitely many, and none is kept twice.
-use Rattle.std.specs.Prelude.{◌≡◌, ◌≤◌, ◌+◌, ◌||◌, ℕ, Bool, true, false, List, [], ◌∷◌, ◌++◌, slice_get, Some}
-use Rattle.dps_terms.specs.Tree.{Tree, Trees, leaf, app, none, more, trees}
+use Rattle.std.specs.Prelude.{◌≡◌, ◌≤◌, ◌+◌, ◌||◌, ℕ, Bool, true, false, List, [], ◌∷◌, ◌++◌}
+use Rattle.dps_terms.specs.Tree.{Tree, Trees, leaf, app, none, more}
 use Rattle.dps_terms.specs.Replace.{substitute, put_entries}
 use Rattle.dps_terms.specs.Same.{same}
 use Rattle.dps_terms.specs.Variables.{variables}
-use Rattle.dps_terms.specs.Views.{arguments}
 use Rattle.dps_theory.specs.Theory.{Rule, Theory}
 use Rattle.dps_static.specs.Ways.{Composes}
 use Rattle.dps_static.specs.Generic.{IsBuilt, generic, filled}
 use Rattle.dps_static.specs.Binding.{BindsParts}
-use Rattle.dps_static.specs.Saturation.{AreKnown, IsRuleClosed, IsClosedUnder, StartsWith, own_name}
+use Rattle.dps_static.specs.Saturation.{AreKnown, StartsWith, own_name}
 
 -- all subterms, each as often as it stands
 abbrev mutual
@@ -48,7 +47,7 @@ absent (u ∷ us) kept = miss (is_in kept u) + absent us kept
 
 -- A use of a rule that gives a tree which is not built from the kept ones, and its recipe. Where a rigid name stands in the
 -- way, an attacker's name stands in the recipe.
-pub record IsUse (rule : Rule) (recipes kept : List Tree) (recipe value : Tree) : Type 0 where
+pub record GivesNew (rule : Rule) (recipes kept : List Tree) (recipe value : Tree) : Type 0 where
   pub by : List (ℕ × Tree)
   pub parts : BindsParts kept (variables rule.left) by
   pub way : Tree
@@ -62,20 +61,3 @@ pub record Grows (theory : Theory) (n : ℕ) (recipes kept more_recipes more_kep
   pub keeps : StartsWith more_kept kept
   pub known : (frame : List Tree) → AreKnown theory frame recipes kept → AreKnown theory frame more_recipes more_kept
   pub fewer : (frame : List Tree) → AreKnown theory frame recipes kept → absent (universe theory frame) more_kept + n ≤ absent (universe theory frame) kept
-
--- nothing was kept, since the rule gives what is built
-pub record IsUsedUp (rule : Rule) (recipes kept more_recipes more_kept : List Tree) : Type 0 where
-  pub same_recipes : more_recipes ≡ recipes
-  pub same_kept : more_kept ≡ kept
-  pub closed : IsRuleClosed kept (trees (arguments rule.left)) rule.right
-
--- the same for the rule of a place
-abbrev pub IsUsedUpAt : List Rule → ℕ → List Tree → List Tree → List Tree → List Tree → Type 0
-IsUsedUpAt rules place recipes kept more_recipes more_kept =
-    (rule : Rule) → slice_get rules place ≡ Some rule → IsUsedUp rule recipes kept more_recipes more_kept
-
--- and for all rules
-pub record AreUsedUp (theory : Theory) (recipes kept more_recipes more_kept : List Tree) : Type 0 where
-  pub same_recipes : more_recipes ≡ recipes
-  pub same_kept : more_kept ≡ kept
-  pub closed : IsClosedUnder theory kept

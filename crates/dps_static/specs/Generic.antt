@@ -72,19 +72,8 @@ pub record IsFound (z : ℕ → Tree) (s : List (ℕ × Tree)) (found : List (Li
   pub agrees : Agrees z by
   pub wanted : Wanted by
 
--- Wherever z makes the pattern a tree that is built from the kept ones, one of the substitutions that were found settles it.
-pub record Covers (kept : List Tree) (p : Tree) (start found : List (List (ℕ × Tree))) : Type 0 where
-  pub covers :
-      (z : ℕ → Tree) (s : List (ℕ × Tree)) → Contains start s → Agrees z s
-      → IsBuilt kept (substitute z p) → IsFound z s found (λ q. IsSettled kept z q p)
-
+-- Wherever z makes the patterns trees that are built from the kept ones, one of the substitutions that were found settles them.
 pub record CoversAll (kept : List Tree) (ps : Trees) (start found : List (List (ℕ × Tree))) : Type 0 where
   pub covers :
       (z : ℕ → Tree) (s : List (ℕ × Tree)) → Contains start s → Agrees z s
       → AreBuilt kept (substitute_all z ps) → IsFound z s found (λ q. AreSettled kept z q ps)
-
--- Wherever z makes the pattern a kept tree, one of the substitutions that were found binds all variables of the pattern.
-pub record CoversEntries (kept : List Tree) (p : Tree) (start found : List (List (ℕ × Tree))) : Type 0 where
-  pub covers :
-      (z : ℕ → Tree) (s : List (ℕ × Tree)) → Contains start s → Agrees z s → Contains kept (substitute z p)
-      → IsFound z s found (λ q. (n : ℕ) → StandsIn (var n) p → IsBoundBy q n)

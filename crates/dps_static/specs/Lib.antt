@@ -8,8 +8,11 @@ pub mod Answer
 pub mod Generic
 pub mod Binding
 pub mod Saturation
+pub mod Cuts
 pub mod Ending
 pub mod Uses
+pub mod Replies
+pub mod Asking
 pub mod Naming
 pub mod Telling
 pub mod Pairs

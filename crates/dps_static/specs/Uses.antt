@@ -4,7 +4,7 @@ use Rattle.dps_terms.specs.Tree.{Tree}
 use Rattle.dps_terms.specs.Replace.{substitute}
 use Rattle.dps_terms.specs.Variables.{variables}
 use Rattle.dps_theory.specs.Theory.{Rule, Theory, HasRule}
-use Rattle.dps_static.specs.Ways.{Builds, Composes, IsNotBuilt, IsNotComposed}
+use Rattle.dps_static.specs.Ways.{Builds, Composes, IsNotComposed}
 use Rattle.dps_static.specs.Generic.{generic}
 use Rattle.dps_static.specs.Binding.{BindsParts, CoversLeft}
 use Rattle.dps_static.specs.declared.uses.RuleUse.{RuleUse}
@@ -13,10 +13,6 @@ use Rattle.dps_static.specs.declared.uses.RuleUse.{RuleUse}
 pub record IsUse (kept : List Tree) (rule : Rule) (s : List (ℕ × Tree)) (one : RuleUse) : Type 0 where
   pub composes : Composes kept (substitute (generic s) rule.left) one.left
   pub builds : Builds kept (substitute (generic s) rule.right) one.right
-
--- the left side is not composed, or the right side is not built
-abbrev pub IsNoUse : List Tree → Rule → List (ℕ × Tree) → Type 0
-IsNoUse kept rule s = IsNotComposed kept (substitute (generic s) rule.left) ⊎ IsNotBuilt kept (substitute (generic s) rule.right)
 
 -- a use of some rule of the theory, with parts of kept trees for variables
 pub record IsUseOf (theory : Theory) (kept : List Tree) (one : RuleUse) : Type 0 where
@@ -32,19 +28,14 @@ pub record HasUse (kept : List Tree) (uses : List RuleUse) (rule : Rule) (s : Li
   pub listed : Contains uses one
   pub is_use : IsUse kept rule s one
 
--- The substitutions that were found cover the left side of the rule. Each has its use, or the rule is not used with it.
+-- The substitutions that were found cover the left side of the rule. With each of them the left side is not composed, or the
+-- rule has its use.
 pub record HasRuleUses (kept : List Tree) (uses : List RuleUse) (rule : Rule) : Type 0 where
   pub found : List (List (ℕ × Tree))
   pub covers : CoversLeft kept rule.left found
-  pub uses_of : (s : List (ℕ × Tree)) → Contains found s → IsNoUse kept rule s ⊎ HasUse kept uses rule s
+  pub uses_of : (s : List (ℕ × Tree)) → Contains found s → IsNotComposed kept (substitute (generic s) rule.left) ⊎ HasUse kept uses rule s
 
 -- all uses of the theory's rules over the kept trees
 pub record AreUsesOf (theory : Theory) (kept : List Tree) (uses : List RuleUse) : Type 0 where
   pub each : (one : RuleUse) → Contains uses one → IsUseOf theory kept one
   pub all : (rule : Rule) → HasRule theory rule → HasRuleUses kept uses rule
-
--- uses were added, and those of the rule are there
-pub record AddsUses (theory : Theory) (kept : List Tree) (rule : Rule) (old new : List RuleUse) : Type 0 where
-  pub stay : (one : RuleUse) → Contains old one → Contains new one
-  pub each : (one : RuleUse) → Contains new one → Contains old one ⊎ IsUseOf theory kept one
-  pub has : HasRuleUses kept new rule

@@ -1,16 +1,11 @@
-//! The substitutions by which kept trees make a pattern.
-ghost use Rattle.std.specs.Prelude.{◌≡◌, ◌↔◌, IfOk, IsTrue, All, MatchOption};
-ghost use Rattle.dps_terms.specs.Tree.{trees};
+//! The substitutions by which kept trees make a pattern. An *entry* is a kept tree that stands for a part of the pattern.
+ghost use Rattle.std.specs.Prelude.{◌≡◌, ◌≤◌, ◌↔◌, IfOk, IsTrue, All, length};
 ghost use Rattle.dps_terms.specs.Views.{view_of, arguments};
-ghost use Rattle.dps_terms.specs.Variables.{variables};
 ghost use Rattle.dps_terms.specs.Seen.{seen};
-ghost use Rattle.dps_unify.specs.Matching.{Matched, Refused};
-ghost use Rattle.dps_static.specs.Generic.{Covers, CoversAll, CoversEntries};
-ghost use Rattle.dps_static.specs.Binding.{BindsParts, HasFreeVariables, IsRooted, CoversLeft};
+ghost use Rattle.dps_static.specs.Binding.{AreMatches, BindsParts, HasFreeVariables, IsRooted};
+ghost use Rattle.dps_static.specs.Cuts.{Covers, CoversArguments, CoversEntries};
 
-use crate::kept::Kept;
 use dps_terms::{NoMemory, Subst, Term, TermRef, TermView};
-use dps_theory::Rule;
 use dps_unify::extend_match;
 use std::alloc::Global;
 
@@ -21,71 +16,78 @@ fn same_root(pattern: TermRef<'_>, tree: TermRef<'_>) -> bool
     pattern.view() == tree.view()
 }
 
-/// The substitution extended so that the pattern, a symbol over terms, becomes the tree, and `None` exactly where there is none.
-fn entry_match(
+/// The substitutions extended so that the pattern, a symbol over terms, becomes the tree, in all ways.
+fn matches(
     alloc: Global,
-    free: &[u64],
-    pattern: TermRef<'_>,
-    by: &Subst,
-    tree: TermRef<'_>,
-) -> Result<Option<Subst>, NoMemory>
-    requires { IsRooted (seen pattern) }
-    ensures { IfOk result (λ o. MatchOption o (Refused free.now by.now (seen pattern.entry) (seen tree.entry)) (Matched free.now by.now (seen pattern.entry) (seen tree.entry))) }
-{
-    // Most kept trees differ at the root, and need no copy.
-    if !same_root(pattern, tree) {
-        return Ok(None);
-    }
-    let mut more = by.copy(alloc)?;
-    if extend_match(alloc, &mut more, free, pattern, tree)? {
-        return Ok(Some(more));
-    }
-    Ok(None)
-}
-
-/// The substitutions extended so that the pattern becomes a kept tree, in all ways.
-fn entries(
-    alloc: Global,
-    kept: &Kept,
     free: &[u64],
     pattern: TermRef<'_>,
     start: &[Subst],
+    tree: TermRef<'_>,
 ) -> Result<Vec<Subst>, NoMemory>
-    requires rooted { IsRooted (seen pattern) }
-    requires free { HasFreeVariables free.now (seen pattern) }
-    requires parts { All (BindsParts kept.now free.now) start.now }
-    ensures covers { IfOk result (λ found. CoversEntries kept.now (seen pattern.entry) start.now found.items) }
-    ensures parts { IfOk result (λ found. All (BindsParts kept.now free.now) found.items) }
+    requires { IsRooted (seen pattern) }
+    ensures { IfOk result (λ found. AreMatches free.now (seen pattern.entry) (seen tree.entry) start.now found.items) }
 {
     let mut found = Vec::new(alloc);
+    // Most kept trees differ at the root.
+    if !same_root(pattern, tree) {
+        return Ok(found);
+    }
     for by in start {
-        for tree in kept.trees() {
-            if let Some(more) = entry_match(alloc, free, pattern, by, tree.whole())? {
-                found.push(more)?;
-            }
+        let mut more = by.copy(alloc)?;
+        if extend_match(alloc, &mut more, free, pattern, tree)? {
+            found.push(more)?;
         }
     }
     Ok(found)
 }
 
-/// The substitutions extended so that they settle the pattern, in all ways that matter.
+/// The substitutions extended so that the pattern becomes one of the kept trees at the places `from..to`, in all ways.
+pub(crate) fn entries(
+    alloc: Global,
+    kept: &[Term],
+    from: usize,
+    to: usize,
+    free: &[u64],
+    pattern: TermRef<'_>,
+    start: &[Subst],
+) -> Result<Vec<Subst>, NoMemory>
+    requires within { to ≤ length kept.now }
+    requires rooted { IsRooted (seen pattern) }
+    requires free { HasFreeVariables free.now (seen pattern) }
+    requires parts { All (BindsParts kept.now free.now) start.now }
+    ensures covers { IfOk result (λ found. CoversEntries kept.now from to (seen pattern.entry) start.now found.items) }
+    ensures parts { IfOk result (λ found. All (BindsParts kept.now free.now) found.items) }
+{
+    let mut found = Vec::new(alloc);
+    for place in from..to {
+        let mut here = matches(alloc, free, pattern, start, kept[place].whole())?;
+        found.append(&mut here)?;
+    }
+    Ok(found)
+}
+
+/// The substitutions extended so that they settle the pattern, in all ways that matter with entries of the first `to` kept
+/// trees.
 #[cycle(cover)]
 fn cover(
     alloc: Global,
-    kept: &Kept,
+    kept: &[Term],
+    to: usize,
     free: &[u64],
     pattern: TermRef<'_>,
     start: Vec<Subst>,
 ) -> Result<Vec<Subst>, NoMemory>
+    requires within { to ≤ length kept.now }
     requires free { HasFreeVariables free.now (seen pattern) }
     requires parts { All (BindsParts kept.now free.now) start.items }
-    ensures covers { IfOk result (λ found. Covers kept.now (seen pattern.entry) start.items found.items) }
+    ensures covers { IfOk result (λ found. Covers kept.now to (seen pattern.entry) start.items found.items) }
     ensures parts { IfOk result (λ found. All (BindsParts kept.now free.now) found.items) }
 {
     match pattern.view() {
         TermView::App(_) => {
-            let mut found = entries(alloc, kept, free, pattern, &start)?;
-            let mut rest = cover_arguments(alloc, kept, free, pattern, start)?;
+            let mut found = entries(alloc, kept, 0, to, free, pattern, &start)?;
+            let arity = pattern.arity();
+            let mut rest = cover_arguments(alloc, kept, to, free, pattern, 0, arity, start)?;
             found.append(&mut rest)?;
             Ok(found)
         }
@@ -93,36 +95,29 @@ fn cover(
     }
 }
 
-/// The same for all arguments of the pattern.
+/// The same for the arguments `first..last` of the pattern.
 #[cycle(cover)]
-fn cover_arguments(
+pub(crate) fn cover_arguments(
     alloc: Global,
-    kept: &Kept,
+    kept: &[Term],
+    to: usize,
     free: &[u64],
     pattern: TermRef<'_>,
+    first: u32,
+    last: u32,
     start: Vec<Subst>,
 ) -> Result<Vec<Subst>, NoMemory>
+    requires within { to ≤ length kept.now }
+    requires range { first ≤ last }
+    requires last { last ≤ length (arguments (seen pattern)) }
     requires free { HasFreeVariables free.now (seen pattern) }
     requires parts { All (BindsParts kept.now free.now) start.items }
-    ensures covers { IfOk result (λ found. CoversAll kept.now (trees (arguments (seen pattern.entry))) start.items found.items) }
+    ensures covers { IfOk result (λ found. CoversArguments kept.now to (arguments (seen pattern.entry)) first last start.items found.items) }
     ensures parts { IfOk result (λ found. All (BindsParts kept.now free.now) found.items) }
 {
     let mut found = start;
-    for index in 0..pattern.arity() {
-        found = cover(alloc, kept, free, pattern.argument(index), found)?;
+    for index in first..last {
+        found = cover(alloc, kept, to, free, pattern.argument(index), found)?;
     }
-    Ok(found)
-}
-
-/// The ways to use a rule over the kept trees: substitutions that bind variables of the left side to parts of kept trees,
-/// and of which one settles the arguments of the left side wherever these are built.
-pub(crate) fn ways(alloc: Global, kept: &Kept, left: &Term) -> Result<Vec<Subst>, NoMemory>
-    ensures covers { IfOk result (λ found. CoversLeft kept.now left.now found.items) }
-    ensures parts { IfOk result (λ found. All (BindsParts kept.now (variables left.now)) found.items) }
-{
-    let free = left.vars(alloc)?;
-    let mut start = Vec::new(alloc);
-    start.push(Subst::empty(alloc))?;
-    let found = cover_arguments(alloc, kept, &free, left.whole(), start)?;
     Ok(found)
 }

@@ -23,6 +23,7 @@ pub mod laws;
 mod naming;
 mod pairing;
 mod passing;
+mod pivot;
 mod refute;
 mod saturation;
 #[cfg(test)]

@@ -69,16 +69,21 @@ pub(crate) fn told(
     alloc: Global,
     theory: &Theory,
     knowledge: &Knowledge,
-    uses: &[RuleUse],
     counterparts: &[Term],
 ) -> Result<Option<Test>, NoMemory>
     requires { length knowledge.now.kept ≡ length counterparts.now }
-    ensures { IfOk result (λ o. MatchOption o (AllPass theory.now knowledge.now.kept counterparts.now uses.now) (IsTold theory.now knowledge.now.recipes.items knowledge.now.kept counterparts.now uses.now)) }
+    ensures { IfOk result (λ o. MatchOption o (AllPass theory.now knowledge.now.kept counterparts.now knowledge.now.uses.items) (IsTold theory.now knowledge.now.recipes.items knowledge.now.kept counterparts.now knowledge.now.uses.items)) }
 {
     if let Some(ways) = difference(alloc, &knowledge.kept, counterparts)? {
         let test = question(alloc, &knowledge.recipes, &ways)?;
         return Ok(Some(test));
     }
-    let found = uses_test(alloc, theory, &knowledge.recipes, counterparts, uses)?;
+    let found = uses_test(
+        alloc,
+        theory,
+        &knowledge.recipes,
+        counterparts,
+        &knowledge.uses,
+    )?;
     Ok(found)
 }

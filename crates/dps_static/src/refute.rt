@@ -7,7 +7,6 @@ use crate::Test;
 use crate::carry::{Carried, carry};
 use crate::passing::told;
 use crate::saturation::saturated;
-use crate::uses::uses_of;
 use dps_recipes::Frame;
 use dps_terms::NoMemory;
 use dps_theory::Theory;
@@ -29,8 +28,7 @@ pub(crate) fn refute(
     match carry(alloc, theory, second, &knowledge.recipes)? {
         Carried::Lost(recipe) => Ok(Some(Test::Value(recipe))),
         Carried::Values(values) => {
-            let uses = uses_of(alloc, theory, &knowledge.kept)?;
-            let found = told(alloc, theory, &knowledge, &uses, &values)?;
+            let found = told(alloc, theory, &knowledge, &values)?;
             Ok(found)
         }
     }

@@ -1,34 +1,42 @@
-//! A table of frames, told apart or not, and by which test.
+//! Tables of frames, told apart or not, and by which test.
 use crate::{Comparison, Test, compare, deduce, saturate};
 use dps_recipes::Frame;
 use dps_terms::{AddRefusal, NoMemory, PublicName, Signature, Sym, SymKind, Term, is_identifier};
-use dps_theory::Theory;
+use dps_theory::{Rule, Theory, are_checkable};
 use std::alloc::Global;
 use std::process::Abort;
 use std::test::Fail;
 
-/// The symbol of the number `arity` over the last terms.
-fn over(alloc: Global, stack: &mut Vec<Term>, arity: u32) -> Result<Term, NoMemory> {
-    let below = stack.len().saturating_sub(arity as usize);
+/// The symbol of this number over the last terms.
+fn over(alloc: Global, stack: &mut Vec<Term>, number: u32, arity: usize) -> Result<Term, NoMemory> {
+    let below = stack.len().saturating_sub(arity);
     let arguments = stack.split_off(below)?;
     if arguments.len() > 8 {
         return Term::private(alloc, 0);
     }
-    Term::app(alloc, Sym { number: arity }, arguments)
+    Term::app(alloc, Sym { number }, arguments)
 }
 
-/// The terms that the letters leave on a stack: `a` and `b` are declared names, `@` is the attacker's last own name, `h` is a
-/// symbol over one term and `e` one over two, digits are handles, and other letters are private names.
+/// The terms that the letters leave on a stack: `a` and `b` are declared names, `0` and `@` are the attacker's first and last
+/// own names, `h` is a symbol over one term and `e` one over two, `S`, `D`, `U` and `Q` are destructors over none, two, one and
+/// one, `X` and `Y` are variables, other digits are handles, and other letters are private names.
 fn terms(alloc: Global, letters: &[u8]) -> Result<Vec<Term>, NoMemory> {
     let mut stack = Vec::new(alloc);
     for letter in letters {
         let term = match *letter {
-            b'h' => over(alloc, &mut stack, 1)?,
-            b'e' => over(alloc, &mut stack, 2)?,
+            b'S' => over(alloc, &mut stack, 0, 0)?,
+            b'h' => over(alloc, &mut stack, 1, 1)?,
+            b'e' => over(alloc, &mut stack, 2, 2)?,
+            b'D' => over(alloc, &mut stack, 3, 2)?,
+            b'U' => over(alloc, &mut stack, 4, 1)?,
+            b'Q' => over(alloc, &mut stack, 5, 1)?,
             b'a' => Term::public(alloc, PublicName::Declared(0))?,
             b'b' => Term::public(alloc, PublicName::Declared(1))?,
+            b'0' => Term::public(alloc, PublicName::At(0))?,
             b'@' => Term::public(alloc, PublicName::At(u64::MAX))?,
             b'1'..=b'9' => Term::ax(alloc, u32::from(*letter - b'0'))?,
+            b'X' => Term::var(alloc, 0)?,
+            b'Y' => Term::var(alloc, 1)?,
             other => Term::private(alloc, u64::from(other))?,
         };
         stack.push(term)?;
@@ -54,13 +62,51 @@ fn add(
     signature.add_symbol(name, kind, arity)
 }
 
-/// The theory of a destructor without an argument, of `h` and of `e`, without a rule.
-fn theory(rt: &impl Abort, alloc: Global) -> Result<Theory, NoMemory> {
+fn add_name(rt: &impl Abort, signature: &mut Signature, name: &str) -> Result<u32, AddRefusal> {
+    assert!(rt; is_identifier(name));
+    assert!(rt; signature.symbol_count() < 100);
+    assert!(rt; signature.name_count() < 100);
+    signature.add_name(name, false)
+}
+
+/// The signature of the symbols and of the names `a` and `b`.
+fn signature(rt: &impl Abort, alloc: Global) -> Signature {
     let mut signature = Signature::new(alloc);
     assert!(rt; add(rt, &mut signature, "stuck", SymKind::Destructor, 0).is_ok());
     assert!(rt; add(rt, &mut signature, "h", SymKind::Constructor, 1).is_ok());
     assert!(rt; add(rt, &mut signature, "e", SymKind::Constructor, 2).is_ok());
-    Theory::without_rules(alloc, &signature)
+    assert!(rt; add(rt, &mut signature, "d", SymKind::Destructor, 2).is_ok());
+    assert!(rt; add(rt, &mut signature, "u", SymKind::Destructor, 1).is_ok());
+    assert!(rt; add(rt, &mut signature, "q", SymKind::Destructor, 1).is_ok());
+    assert!(rt; add_name(rt, &mut signature, "a").is_ok());
+    assert!(rt; add_name(rt, &mut signature, "b").is_ok());
+    signature
+}
+
+/// The rules whose sides the letters leave on a stack, two and two.
+fn rules(alloc: Global, letters: &str) -> Result<Vec<Rule>, NoMemory> {
+    let mut rules = Vec::new(alloc);
+    let mut left = None;
+    for side in terms(alloc, letters.as_bytes())? {
+        match left.take() {
+            Some(left) => rules.push(Rule { left, right: side })?,
+            None => left = Some(side),
+        }
+    }
+    Ok(rules)
+}
+
+/// The theory of `stuck -> h(a)`, `d(e(x,y),y) -> x`, `u(h(h(x))) -> x` and `q(e(h(x),y)) -> y`.
+fn ruled(rt: &impl Abort, alloc: Global) -> Result<Theory, NoMemory> {
+    let signature = signature(rt, alloc);
+    let rules = rules(alloc, "SahXYeYDXXhhUXXhYeQY")?;
+    assert!(rt; rules.len() == 4);
+    let checkable = are_checkable(alloc, &signature, &rules)?;
+    assert!(rt; checkable);
+    match Theory::check(alloc, &signature, rules) {
+        Ok(theory) => Ok(theory),
+        Err(_) => panic!(rt; "the rules are accepted"),
+    }
 }
 
 /// Whether the answer is equality of the two recipes, or that the frames are equivalent where there are none.
@@ -75,10 +121,55 @@ fn is_answer(answer: Result<Comparison, NoMemory>, recipes: &[Term]) -> bool {
     }
 }
 
+/// Which kind of test tells the frames of the letters apart: `v` for one on a value, `e` for one on equality, `s` for none.
+fn kind(
+    rt: &impl Abort,
+    alloc: Global,
+    theory: &Theory,
+    one: &str,
+    other: &str,
+) -> Result<char, NoMemory> {
+    let first = frame(alloc, one)?;
+    let second = frame(alloc, other)?;
+    assert!(rt; first.messages.len() == second.messages.len());
+    assert!(rt; first.messages.len() < 100);
+    match compare(alloc, theory, &first, &second)? {
+        Comparison::Same => Ok('s'),
+        Comparison::Differ(Test::Value(_)) => Ok('v'),
+        Comparison::Differ(Test::Equal(_, _)) => Ok('e'),
+    }
+}
+
+#[test]
+fn frames_under_rules(rt: HostRuntime) -> Result<(), Fail> {
+    let alloc = rt.alloc();
+    let theory = ruled(&rt, alloc)?;
+    let table = [
+        ("ah", "ah", 's'),
+        ("ah", "bh", 'e'),
+        ("@kek", "@nen", 's'),
+        ("@kek", "0kek", 'e'),
+        ("@kek", "nkek", 'e'),
+        ("@0e@", "nnep", 'e'),
+        ("n@e", "n0e", 'v'),
+        ("n@e@", "nkek", 'v'),
+        ("kh", "k", 'v'),
+        ("k", "kh", 'v'),
+        ("kh0@", "k0@", 'v'),
+        ("khhk", "nhhk", 'e'),
+        ("knpe", "knpe", 's'),
+    ];
+    for (one, other, wanted) in &table {
+        let found = kind(&rt, alloc, &theory, one, other)?;
+        assert!(rt; found == *wanted, "{one} {other}");
+    }
+    Ok(())
+}
+
 #[test]
 fn frames(rt: HostRuntime) -> Result<(), Fail> {
     let alloc = rt.alloc();
-    let theory = theory(&rt, alloc)?;
+    let theory = Theory::without_rules(alloc, &signature(&rt, alloc))?;
     let table = [
         ("", "", ""),
         ("kk", "kn", "21"),
@@ -117,7 +208,7 @@ fn is_found(found: Result<Option<Term>, NoMemory>, recipe: &[Term]) -> bool {
 #[test]
 fn deductions(rt: HostRuntime) -> Result<(), Fail> {
     let alloc = rt.alloc();
-    let theory = theory(&rt, alloc)?;
+    let theory = Theory::without_rules(alloc, &signature(&rt, alloc))?;
     let table = [
         ("", "a", "a"),
         ("", "k", ""),

@@ -1,14 +1,13 @@
-//! All uses of the rules over kept trees.
-ghost use Rattle.std.specs.Prelude.{IfOk, OnOk, MatchOption};
-ghost use Rattle.dps_theory.specs.Theory.{HasRule};
-ghost use Rattle.dps_static.specs.Uses.{IsUse, IsNoUse, AddsUses, AreUsesOf};
+//! Uses of the rules over kept trees.
+ghost use Rattle.std.specs.Prelude.{IfOk};
+ghost use Rattle.dps_static.specs.Replies.{IsReply};
 
 use crate::build::{composed, way};
-use crate::cover::ways;
-use crate::instance::instance;
+use crate::expand::expanded;
+use crate::instance::{instance, named};
 use crate::kept::Kept;
 use dps_terms::{NoMemory, Subst, Term};
-use dps_theory::{Rule, Theory};
+use dps_theory::Rule;
 use std::alloc::Global;
 
 /// One use of a rule over kept trees: ways that build the instances of its two sides.
@@ -18,56 +17,50 @@ pub(crate) struct RuleUse {
     pub(crate) right: Term,
 }
 
-/// The use of the rule with this substitution, and `None` exactly where one of the sides is not built.
-fn use_with(
+/// A tree that a rule gives and that is not built from the kept ones, its recipe, and the way that builds the left side.
+#[derive(Drop)]
+pub(crate) struct NewTree {
+    pub(crate) left: Term,
+    pub(crate) recipe: Term,
+    pub(crate) value: Term,
+}
+
+/// What asking a rule with a substitution comes to.
+#[derive(Drop)]
+pub(crate) enum Reply {
+    /// The left side is not composed from the kept trees so far.
+    Waits,
+    /// Both sides are built.
+    Uses(RuleUse),
+    /// The left side is composed, and the right side is not built.
+    Gives(NewTree),
+}
+
+/// What the rule comes to with this substitution.
+pub(crate) fn ask(
     alloc: Global,
+    recipes: &[Term],
     kept: &Kept,
     rule: &Rule,
     by: &Subst,
-) -> Result<Option<RuleUse>, NoMemory>
-    ensures { IfOk result (λ o. MatchOption o (IsNoUse kept.now rule.now by.now) (IsUse kept.now rule.now by.now)) }
+) -> Result<Reply, NoMemory>
+    ensures { IfOk result (IsReply rule.now recipes.now kept.now by.now) }
 {
-    let left = instance(alloc, by, rule.left.whole())?;
-    let Some(root) = composed(alloc, kept, left.whole())? else {
-        return Ok(None);
+    let instance_left = instance(alloc, by, rule.left.whole())?;
+    let Some(left) = composed(alloc, kept, instance_left.whole())? else {
+        return Ok(Reply::Waits);
     };
-    let right = instance(alloc, by, rule.right.whole())?;
-    match way(alloc, kept, right.whole())? {
-        Some(built) => Ok(Some(RuleUse {
-            left: root,
-            right: built,
-        })),
-        None => Ok(None),
-    }
-}
-
-/// Adds the uses of the rule.
-fn add_uses(
-    alloc: Global,
-    theory: &Theory,
-    kept: &Kept,
-    rule: &Rule,
-    uses: &mut Vec<RuleUse>,
-) -> Result<(), NoMemory>
-    requires { HasRule theory.now rule.now }
-    ensures { OnOk result (AddsUses theory.now kept.now rule.now uses.old.items uses.new.items) }
-{
-    let found = ways(alloc, kept, &rule.left)?;
-    for by in &found {
-        if let Some(one) = use_with(alloc, kept, rule, by)? {
-            uses.push(one)?;
+    let value = instance(alloc, by, rule.right.whole())?;
+    match way(alloc, kept, value.whole())? {
+        Some(right) => Ok(Reply::Uses(RuleUse { left, right })),
+        None => {
+            let closed = named(alloc, left.whole())?;
+            let recipe = expanded(alloc, recipes, closed.whole())?;
+            Ok(Reply::Gives(NewTree {
+                left,
+                recipe,
+                value,
+            }))
         }
     }
-    Ok(())
-}
-
-/// The uses of all rules.
-pub(crate) fn uses_of(alloc: Global, theory: &Theory, kept: &Kept) -> Result<Vec<RuleUse>, NoMemory>
-    ensures { IfOk result (λ uses. AreUsesOf theory.now kept.now uses.items) }
-{
-    let mut uses = Vec::new(alloc);
-    for rule in theory.rules() {
-        add_uses(alloc, theory, kept, rule, &mut uses)?;
-    }
-    Ok(uses)
 }
