@@ -4,10 +4,10 @@ use Rattle.dps_terms.specs.Tree.{Tree, app, trees, var, node_count}
 use Rattle.dps_process.specs.Process as process
 use Rattle.dps_process.specs.Process.{Process, size, process_nodes}
 use Rattle.dps_terms.specs.declared.Sym.{Sym}
-use Rattle.dps_names.specs.declared.body.Channel.{Channel}
-use Rattle.dps_names.specs.declared.body.Step.{Step}
-use Rattle.dps_names.specs.declared.body.Step.TheVariants.{Project, Test}
-use Rattle.dps_names.specs.Body.{Body, bodies, nil, input, output, conditional, bind}
+use Rattle.dps_scopes.specs.declared.body.Channel.{Channel}
+use Rattle.dps_scopes.specs.declared.body.Step.{Step}
+use Rattle.dps_scopes.specs.declared.body.Step.TheVariants.{Project, Test}
+use Rattle.dps_scopes.specs.Body.{Body, bodies, nil, input, output, conditional, bind}
 use Rattle.dps_names.specs.Program.{Written}
 use Rattle.dps_elab.specs.Expansion.{Value, Numbers, Expansion, Expanding, made, value_at, value_of, channel_in, one_variable, with_terms, beside, taken_apart, and_copies, expansion_of}
 use Rattle.dps_elab.specs.Limits.{height, process_height}

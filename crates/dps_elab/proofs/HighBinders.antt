@@ -3,8 +3,8 @@ use Rattle.std.proofs.Common.{ℕ, zero, suc, ◌-◌, ◌≤◌, ◌^◌, List,
 use Rattle.dps_terms.specs.Tree.{app, trees, var, private}
 use Rattle.dps_process.specs.Process as process
 use Rattle.dps_process.specs.Process.{Process, EachBinder}
-use Rattle.dps_names.specs.declared.body.Step.{Step}
-use Rattle.dps_names.specs.declared.body.Step.TheVariants.{Project, Test}
+use Rattle.dps_scopes.specs.declared.body.Step.{Step}
+use Rattle.dps_scopes.specs.declared.body.Step.TheVariants.{Project, Test}
 use Rattle.dps_names.specs.Program.{Body, Bodies, nil, parallel, choice, copies, fresh, input, output, conditional, bind, call, none, more, Definition, Program}
 use Rattle.dps_elab.specs.Expansion.{Value, Numbers, Expansion, Expanding, nothing, made, value_at, values_of, one_name, beside, and_copies, one_variable, taken_apart, called, expand, chain, chain_behind, meanings, left_expansion, right_expansion, private_names, first_numbers}
 

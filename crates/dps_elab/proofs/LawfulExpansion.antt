@@ -7,8 +7,8 @@ use Rattle.dps_terms.specs.Signature.{Signature}
 use Rattle.dps_terms.specs.Kinds.{IsSourceTerm}
 use Rattle.dps_process.specs.Process as process
 use Rattle.dps_process.specs.Process.{Process, IsFree, EachTerm, EachChannel}
-use Rattle.dps_names.specs.declared.body.Step.{Step}
-use Rattle.dps_names.specs.declared.body.Step.TheVariants.{Project, Test}
+use Rattle.dps_scopes.specs.declared.body.Step.{Step}
+use Rattle.dps_scopes.specs.declared.body.Step.TheVariants.{Project, Test}
 use Rattle.dps_names.specs.Program.{Body, Bodies, nil, parallel, choice, copies, fresh, input, output, conditional, bind, call, none, more, Definition}
 use Rattle.dps_names.specs.WellFormed.{TakesArguments, locals_behind, AreStepsOver, IsBodyOver, AreBodiesOver}
 use Rattle.dps_elab.specs.Expansion.{Value, Numbers, Expansion, Expanding, nothing, made, value_at, values_of, tree_in, one_name, beside, and_copies, one_variable, private_numbers, taken_apart, called, expand, chain, chain_behind, meanings}

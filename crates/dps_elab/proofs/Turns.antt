@@ -3,7 +3,7 @@ use Rattle.std.proofs.Common.{◌≡◌, ℕ, zero, suc, ◌+◌, ◌<◌, ◌�
 use Rattle.std.proofs.lemmas.List.{take_all, take_at, take-take, drop_at, drop-append-le, length-append, get_or_past, get_or_append_left}
 use Rattle.std.proofs.Math.Seq.{get_or-append_seam}
 use Rattle.std.proofs.lemmas.Option.{unwrap_or-slice_get}
-use Rattle.dps_names.specs.Body.{Body, fresh, call, nil, body_nodes}
+use Rattle.dps_scopes.specs.Body.{Body, fresh, call, nil, body_nodes}
 use Rattle.dps_names.specs.Program.{Definition, Written}
 use Rattle.dps_elab.specs.Expansion.{Value, Expanding, Numbers, nothing, values_of, called, expand, meanings}
 use Rattle.dps_elab.specs.Locals.{in_frame, local_value, values, locals_from}

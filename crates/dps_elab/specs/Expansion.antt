@@ -7,11 +7,11 @@ use Rattle.dps_terms.specs.Replace.{substitute}
 use Rattle.dps_terms.specs.Signature.{Name}
 use Rattle.dps_process.specs.Process as process
 use Rattle.dps_process.specs.Process.{Process}
-use Rattle.dps_names.specs.declared.written.Use.{Use}
-use Rattle.dps_names.specs.declared.written.Use.TheVariants.{PrivateName, Local}
-use Rattle.dps_names.specs.declared.body.Channel.{Channel}
-use Rattle.dps_names.specs.declared.body.Step.{Step}
-use Rattle.dps_names.specs.declared.body.Step.TheVariants.{Project, Test}
+use Rattle.dps_scopes.specs.declared.written.Use.{Use}
+use Rattle.dps_scopes.specs.declared.written.Use.TheVariants.{PrivateName, Local}
+use Rattle.dps_scopes.specs.declared.body.Channel.{Channel}
+use Rattle.dps_scopes.specs.declared.body.Step.{Step}
+use Rattle.dps_scopes.specs.declared.body.Step.TheVariants.{Project, Test}
 use Rattle.dps_names.specs.Program.{Written, Body, Bodies, nil, parallel, choice, copies, fresh, input, output, conditional, bind, call, none, more, Definition, Program}
 use Rattle.dps_elab.specs.declared.found.PrivateUse.{PrivateUse}
 use Rattle.dps_elab.specs.declared.found.ChannelUse.{ChannelUse}

@@ -2,11 +2,11 @@
 use Rattle.std.specs.Prelude.{◌≡◌, ℕ, ◌+◌, ◌<◌, ◌≤◌, List, [], ◌∷◌, length, take, ⊤}
 use Rattle.dps_process.specs.Process as process
 use Rattle.dps_process.specs.Process.{Process}
-use Rattle.dps_names.specs.Body.{Body, Bodies, parallel, choice, body_nodes}
+use Rattle.dps_scopes.specs.Body.{Body, Bodies, parallel, choice, body_nodes}
+use Rattle.dps_scopes.specs.Views.{shown}
+use Rattle.dps_scopes.specs.declared.body.BodyView.{BodyView}
+use Rattle.dps_scopes.specs.declared.body.BodyView.TheVariants.{Nil, Parallel, Choice, Copies, Fresh, Input, Output, Conditional, Bind, Call}
 use Rattle.dps_names.specs.Program.{Definition}
-use Rattle.dps_names.specs.Views.{shown}
-use Rattle.dps_names.specs.declared.body.BodyView.{BodyView}
-use Rattle.dps_names.specs.declared.body.BodyView.TheVariants.{Nil, Parallel, Choice, Copies, Fresh, Input, Output, Conditional, Bind, Call}
 use Rattle.dps_elab.specs.Expansion.{Expanding, expansion_of}
 use Rattle.dps_elab.specs.Locals.{locals_from}
 use Rattle.dps_elab.specs.declared.local.Local.{Local}

@@ -2,8 +2,8 @@
 use Rattle.std.specs.Prelude.{◌≡◌, ◌⊎◌, ℕ, ◌+◌, ◌<◌, ◌≤◌, List, [], ◌∷◌, ◌++◌, Option, Some, None, unwrap_or, false}
 use Rattle.dps_terms.specs.Tree.{Tree, trees, node_count, node_counts}
 use Rattle.dps_process.specs.Process.{Process, size}
-use Rattle.dps_names.specs.Body.{Body, nil}
-use Rattle.dps_names.specs.declared.body.Step.{Step}
+use Rattle.dps_scopes.specs.Body.{Body, nil}
+use Rattle.dps_scopes.specs.declared.body.Step.{Step}
 use Rattle.dps_elab.specs.Expansion.{Value, Numbers, Expansion, Expanding, one_variable, taken_apart, expansion_of}
 use Rattle.dps_elab.specs.Limits.{height, heights, process_height, is_too_large}
 use Rattle.dps_elab.specs.Locals.{locals_from}

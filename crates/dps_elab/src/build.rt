@@ -9,7 +9,7 @@ ghost use Rattle.dps_elab.specs.Writing.{IsBuilt, IsTooLargeTerm, AreBuilt, AreT
 
 use crate::local::{Frame, Local, local_at};
 use crate::{PrivateUse, Stop};
-use dps_names::Use;
+use dps_scopes::Use;
 use dps_terms::{NoMemory, PublicName, Sym, Term, TermRef, TermView};
 use std::alloc::{AllocError, Global};
 

@@ -3,7 +3,7 @@ ghost use Rattle.std.specs.Prelude.{◌≡◌, ◌<◌, ◌≤◌, ◌++◌, vec
 ghost use Rattle.dps_elab.specs.Expansion.{Value, value_at, value_of, values_of};
 ghost use Rattle.dps_elab.specs.Locals.{in_frame, local_value, values, IsBelow};
 
-use dps_names::{Use, Written};
+use dps_scopes::{Use, Written};
 use dps_terms::{NoMemory, TermView};
 use std::alloc::AllocError;
 

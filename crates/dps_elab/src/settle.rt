@@ -1,12 +1,12 @@
 //! What adds no node to a side: calls, new names, and single copies.
 ghost use Rattle.std.specs.Prelude.{◌≡◌, ◌+◌, ◌<◌, ◌≤◌, ◌++◌, ◌∷◌, [], ℕ, List, length, vec_len, IfOk, OnOk};
-ghost use Rattle.dps_names.specs.Body.{bodies, copies, fresh, call};
-ghost use Rattle.dps_names.specs.Views.{shown};
+ghost use Rattle.dps_scopes.specs.Body.{bodies, copies, fresh, call};
+ghost use Rattle.dps_scopes.specs.Views.{shown};
 ghost use Rattle.dps_elab.specs.declared.local.Local.{Local as ALocal};
 ghost use Rattle.dps_elab.specs.Turns.{chain_of, IsCounted, IsTurned, IsTurn};
 
 use crate::local::{Frame, Local, push_arguments};
-use dps_names::{Body, BodyView, Definition, Written};
+use dps_scopes::{Body, BodyView, Definition, Written};
 use dps_terms::NoMemory;
 use std::alloc::AllocError;
 

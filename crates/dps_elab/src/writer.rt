@@ -2,8 +2,8 @@
 ghost use Rattle.std.specs.Prelude.{◌≡◌, ◌⊎◌, ◌+◌, ◌-◌, ◌<◌, ◌≤◌, ◌^◌, ◌∷◌, [], length, take, vec_len, true, IfOk};
 ghost use Rattle.std.specs.Option.{option_copied};
 ghost use Rattle.dps_terms.specs.Tree.{app, trees};
-ghost use Rattle.dps_names.specs.Body.{nil, bodies, input, output, conditional, bind};
-ghost use Rattle.dps_names.specs.Views.{shown};
+ghost use Rattle.dps_scopes.specs.Body.{nil, bodies, input, output, conditional, bind};
+ghost use Rattle.dps_scopes.specs.Views.{shown};
 ghost use Rattle.dps_elab.specs.Expansion.{value_at, value_of, channel_in, nothing, and_copies, expansion_of};
 ghost use Rattle.dps_elab.specs.Limits.{is_too_large};
 ghost use Rattle.dps_elab.specs.Locals.{locals_from};
@@ -15,8 +15,8 @@ use crate::build::{
 use crate::local::{Frame, Local};
 use crate::settle::{Join, Scope, settle};
 use crate::{ChannelUse, PrivateUse, Stop};
-use dps_names::{Body, BodyView, Channel, Definition, Step, Written};
 use dps_process::Process;
+use dps_scopes::{Body, BodyView, Channel, Definition, Step, Written};
 use dps_terms::{NoMemory, Sym, Term};
 use std::alloc::{AllocError, Global};
 

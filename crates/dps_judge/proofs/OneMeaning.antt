@@ -13,9 +13,9 @@ use Rattle.dps_syntax.specs.Files.{lexemes_at, tree_of, keyword_of, first_kind, 
 use Rattle.dps_syntax.specs.LawsOfFiles.{NoTokensHaveTwoTrees, NoTextIsFileAndHasFault}
 use Rattle.dps_process.specs.Process.{Process}
 use Rattle.dps_process.specs.Problem.{Problem}
-use Rattle.dps_names.specs.declared.fault.NameFault.{NameFault}
+use Rattle.dps_scopes.specs.declared.fault.NameFault.{NameFault}
+use Rattle.dps_scopes.specs.Outcome.{done, faulty}
 use Rattle.dps_names.specs.Program.{Program}
-use Rattle.dps_names.specs.Outcome.{done, faulty}
 use Rattle.dps_names.specs.Declarations.{Known, names_of}
 use Rattle.dps_elab.specs.declared.fault.ExpansionCause.{ExpansionCause}
 use Rattle.dps_theory.specs.Theory.{IsAccepted}

@@ -1,7 +1,7 @@
 -- Processes of `0`, `|`, copies, `new`, outputs and calls.
 use Rattle.std.proofs.Common.{List, [], ◌∷◌}
+use Rattle.dps_scopes.specs.Body.{none, more}
 use Rattle.dps_names.specs.Program.{Body, Bodies, nil, parallel, choice, copies, fresh, input, output, conditional, bind, call, bodies}
-use Rattle.dps_names.specs.Body.{none, more}
 use Rattle.dps_names.specs.Processes.{joined}
 
 abbrev mutual

@@ -14,13 +14,13 @@ use Rattle.dps_syntax.specs.declared.grammar.Symbol.{Symbol}
 use Rattle.dps_syntax.specs.declared.grammar.Symbol.TheVariants.{Sign, Inner, More, Close}
 use Rattle.dps_syntax.specs.Tree.{Lexeme, Parts, none, token, inner as within}
 use Rattle.dps_syntax.specs.Grammar.{Derives, done as nothing, sign, inner, taken, left, IsOneOf, alternatives, sign_of, zero_sign}
-use Rattle.dps_names.specs.declared.meaning.Meaning.{Meaning}
-use Rattle.dps_names.specs.declared.meaning.Meaning.TheVariants.{Local as a_local, Name as a_name, Function as a_function, Process as a_process, Projection as a_projection, Unknown as unknown}
+use Rattle.dps_scopes.specs.declared.meaning.Meaning.{Meaning}
+use Rattle.dps_scopes.specs.declared.meaning.Meaning.TheVariants.{Local as a_local, Name as a_name, Function as a_function, Process as a_process, Projection as a_projection, Unknown as unknown}
+use Rattle.dps_scopes.specs.Body as body
+use Rattle.dps_scopes.specs.Outcome.{Outcome, done, faulty, and_then, fault_at}
+use Rattle.dps_scopes.specs.Scopes.{Locals, is_projection_word, are_projection_digits, begins_as_projection, projection_of, defined, named, function_or_named, declared_meaning, projection_or_declared, local_or_declared, local_named, meaning}
+use Rattle.dps_scopes.specs.Terms.{is_kind, count_inner, without_arguments, function_of, identifier_as, tuple_of, term, terms, identifier}
 use Rattle.dps_names.specs.Program.{Written, Body, Bodies, nil, parallel, choice, copies, fresh, input, output, conditional, bind, call, bodies, Definition}
-use Rattle.dps_names.specs.Body as body
-use Rattle.dps_names.specs.Outcome.{Outcome, done, faulty, and_then, fault_at}
-use Rattle.dps_names.specs.Scopes.{Locals, is_projection_word, are_projection_digits, begins_as_projection, projection_of, defined, named, function_or_named, declared_meaning, projection_or_declared, local_or_declared, local_named, meaning}
-use Rattle.dps_names.specs.Terms.{is_kind, count_inner, without_arguments, function_of, identifier_as, tuple_of, term, terms, identifier}
 use Rattle.dps_names.specs.Processes.{joined, called, call_as, channel, parallels, choices, process, grouped, repeated, restricted, sent, continued, is_number_of_copies, number_of}
 use Rattle.dps_judge.specs.Unbuilt.{is_unbuilt_word, is_unbuilt, has_comma, opening}
 use Rattle.dps_judge.proofs.Rows.{IsClean, IsOf, IsTree, IsRow, holds, row}

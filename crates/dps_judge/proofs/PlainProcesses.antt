@@ -13,12 +13,12 @@ use Rattle.dps_syntax.specs.declared.grammar.Symbol.{Symbol}
 use Rattle.dps_syntax.specs.declared.grammar.Symbol.TheVariants.{Sign, Inner, More, Close}
 use Rattle.dps_syntax.specs.Tree.{Lexeme, Parts, none, token, inner as within, words}
 use Rattle.dps_syntax.specs.Grammar.{Derives, done as nothing, sign, inner, taken, left, IsOneOf, alternatives, sign_of, zero_sign}
-use Rattle.dps_names.specs.declared.meaning.Meaning.{Meaning}
-use Rattle.dps_names.specs.declared.meaning.Meaning.TheVariants.{Local as a_local, Name as a_name, Function as a_function, Process as a_process, Projection as a_projection, Unknown as unknown}
+use Rattle.dps_scopes.specs.declared.meaning.Meaning.{Meaning}
+use Rattle.dps_scopes.specs.declared.meaning.Meaning.TheVariants.{Local as a_local, Name as a_name, Function as a_function, Process as a_process, Projection as a_projection, Unknown as unknown}
+use Rattle.dps_scopes.specs.Outcome.{Outcome, done, faulty, and_then, fault_at}
+use Rattle.dps_scopes.specs.Scopes.{Locals, meaning}
+use Rattle.dps_scopes.specs.Terms.{is_kind, count_inner, term, terms}
 use Rattle.dps_names.specs.Program.{Written, Body, nil, parallel, choice, copies, fresh, output, call, Definition}
-use Rattle.dps_names.specs.Outcome.{Outcome, done, faulty, and_then, fault_at}
-use Rattle.dps_names.specs.Scopes.{Locals, meaning}
-use Rattle.dps_names.specs.Terms.{is_kind, count_inner, term, terms}
 use Rattle.dps_names.specs.Processes.{joined, called, call_as, channel, parallels, choices, process, grouped, repeated, restricted, sent, continued, is_number_of_copies, number_of}
 use Rattle.dps_judge.specs.Unbuilt.{is_unbuilt_word, is_unbuilt, opening}
 use Rattle.dps_judge.proofs.Rows.{IsClean, IsOf, IsTree, IsRow, holds, row}

@@ -19,11 +19,11 @@ use Rattle.dps_syntax.specs.declared.tree.Decl.TheVariants.{Free, Const, Fun, Re
 use Rattle.dps_syntax.specs.Tree.{Lexeme, Parts, none, token, inner as within, words}
 use Rattle.dps_syntax.specs.Files.{tree_of, trees_of, first_kind, HasItsKeyword}
 use Rattle.dps_syntax.specs.Grammar.{Derives, done as nothing, sign, inner, taken, left, sign_of}
+use Rattle.dps_scopes.specs.Outcome.{Outcome, done, faulty, and_then, fault_at}
+use Rattle.dps_scopes.specs.Scopes.{Locals, is_word, is_handle, begins_as_projection, is_reserved, is_unknown, declared_meaning, most_arguments}
+use Rattle.dps_scopes.specs.Terms.{is_kind}
 use Rattle.dps_names.specs.Program.{Program, Definition, WrittenRule, Body, parallel, empty}
 use Rattle.dps_names.specs.declared.program.Side.{Side}
-use Rattle.dps_names.specs.Outcome.{Outcome, done, faulty, and_then, fault_at}
-use Rattle.dps_names.specs.Scopes.{Locals, is_word, is_handle, begins_as_projection, is_reserved, is_unknown, declared_meaning, most_arguments}
-use Rattle.dps_names.specs.Terms.{is_kind}
 use Rattle.dps_names.specs.Processes.{number_of, is_among, joined, parallels}
 use Rattle.dps_names.specs.Declarations.{with_signature, with_definition, with_sides, declaring, declare_names, is_marked_private, names, with_constructor, functions, rules, parameters, in_signature, body_of, define_with, define, side, query, declaration, declarations, names_of}
 use Rattle.dps_judge.specs.Unbuilt.{is_unbuilt_word, is_unbuilt, opening, first_unbuilt}

@@ -7,8 +7,8 @@ use Rattle.dps_terms.specs.Signature.{Name, Signature, IsPublic}
 use Rattle.dps_process.specs.Process as process
 use Rattle.dps_process.specs.Process.{Process, EachChannel}
 use Rattle.dps_tree.specs.Plain.{HasOutputsAlone}
+use Rattle.dps_scopes.specs.Body.{none, more}
 use Rattle.dps_names.specs.Program.{Program, Definition, Body, Bodies, nil, parallel, choice, copies, fresh, input, output, conditional, bind, call}
-use Rattle.dps_names.specs.Body.{none, more}
 use Rattle.dps_elab.specs.declared.found.PrivateUse.{PrivateUse}
 use Rattle.dps_elab.specs.declared.found.ChannelUse.{ChannelUse}
 use Rattle.dps_elab.specs.declared.fault.ExpansionCause.{ExpansionCause}

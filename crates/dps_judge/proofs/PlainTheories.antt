@@ -9,8 +9,8 @@ use Rattle.std.proofs.lemmas.List.Quantifiers.{position-Some}
 use Rattle.dps_terms.specs.Signature.{Symbol, Signature, shapes}
 use Rattle.dps_terms.specs.Names.{is_letter, is_name_byte, tuple_name, symbol_named}
 use Rattle.dps_theory.specs.Theory.{Rule, Theory}
+use Rattle.dps_scopes.specs.Scopes.{is_word}
 use Rattle.dps_names.specs.Program.{Program}
-use Rattle.dps_names.specs.Scopes.{is_word}
 use Rattle.std.specs.List.{flat_map, range_with_len}
 use Rattle.dps_theory.specs.Projections.{rules_for, projections_of, projections}
 use Rattle.dps_elab.specs.Rules.{theory_of}

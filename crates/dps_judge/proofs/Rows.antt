@@ -12,7 +12,7 @@ use Rattle.dps_syntax.specs.declared.grammar.Symbol.{Symbol}
 use Rattle.dps_syntax.specs.declared.grammar.Symbol.TheVariants.{Sign, Inner, More, Close}
 use Rattle.dps_syntax.specs.Tree.{Lexeme, Parts, none, token, inner as within, words}
 use Rattle.dps_syntax.specs.Grammar.{Derives, done, sign, inner, taken, left, IsOneOf, alternatives, continuation}
-use Rattle.dps_names.specs.Faults.{place_of}
+use Rattle.dps_scopes.specs.Faults.{place_of}
 use Rattle.dps_judge.specs.Unbuilt.{is_unbuilt, opening, or_else, first_among}
 
 -- nothing in the parts is not judged yet

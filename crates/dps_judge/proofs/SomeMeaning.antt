@@ -27,9 +27,9 @@ use Rattle.dps_theory.specs.Laws.{AcceptedRulesJoinProjections}
 use Rattle.dps_theory.proofs.Symbols.{unruled_is_kept}
 use Rattle.dps_process.specs.Process.{Process}
 use Rattle.dps_process.specs.Problem.{Problem}
-use Rattle.dps_names.specs.declared.fault.NameFault.{NameFault}
+use Rattle.dps_scopes.specs.declared.fault.NameFault.{NameFault}
+use Rattle.dps_scopes.specs.Outcome.{done, faulty}
 use Rattle.dps_names.specs.Program.{WrittenRule, Program}
-use Rattle.dps_names.specs.Outcome.{done, faulty}
 use Rattle.dps_names.specs.Declarations.{Known, names_of}
 use Rattle.dps_names.specs.Laws.{RulesAreCheckable}
 use Rattle.dps_elab.specs.Meaning.{Expanded, expanded, sides, refused}

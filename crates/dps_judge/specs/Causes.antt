@@ -1,8 +1,8 @@
 -- What is printed for the causes of refused files.
 use Rattle.std.specs.Prelude.{ℕ, List, ◌++◌, codes}
 use Rattle.std.specs.Fmt.{decimal}
-use Rattle.dps_names.specs.declared.fault.NameCause.{NameCause}
-use Rattle.dps_names.specs.declared.fault.NameCause.TheVariants.{NameTwice, ReservedName, UnknownName, WrongArity, WrongKind, LargeArity, PrivateInRule, BadCopies}
+use Rattle.dps_scopes.specs.declared.fault.NameCause.{NameCause}
+use Rattle.dps_scopes.specs.declared.fault.NameCause.TheVariants.{NameTwice, ReservedName, UnknownName, WrongArity, WrongKind, LargeArity, PrivateInRule, BadCopies}
 use Rattle.dps_elab.specs.Rules.{Flaw, no_destructor, inner_destructor, right_destructor, unbounded, overlap}
 use Rattle.dps_elab.specs.declared.fault.ExpansionCause.{ExpansionCause}
 use Rattle.dps_elab.specs.declared.fault.ExpansionCause.TheVariants.{TooLarge, NotAChannel, PrivateChannel}

@@ -12,9 +12,9 @@ use Rattle.dps_process.specs.Problem.{Problem}
 use Rattle.dps_process.specs.Traces.{IsEquivalent}
 use Rattle.dps_tree.specs.Words.{word_of}
 use Rattle.dps_tree.specs.Answer.{IsLeastAttack}
-use Rattle.dps_names.specs.declared.fault.NameFault.{NameFault}
+use Rattle.dps_scopes.specs.declared.fault.NameFault.{NameFault}
+use Rattle.dps_scopes.specs.Outcome.{faulty, done}
 use Rattle.dps_names.specs.Program.{Program}
-use Rattle.dps_names.specs.Outcome.{faulty, done}
 use Rattle.dps_names.specs.Declarations.{names_of}
 use Rattle.dps_elab.specs.Rules.{Flaw, IsFlawed, theory_of}
 use Rattle.dps_elab.specs.declared.fault.ExpansionCause.{ExpansionCause}

@@ -7,9 +7,9 @@ use Rattle.dps_syntax.specs.declared.grammar.Production.TheVariants as productio
 use Rattle.dps_syntax.specs.declared.tree.Decl.{Decl}
 use Rattle.dps_syntax.specs.Tree.{Lexeme, Derivation, Parts, none, token, inner}
 use Rattle.dps_syntax.specs.Files.{trees_of}
-use Rattle.dps_names.specs.Faults.{place_of}
-use Rattle.dps_names.specs.Scopes.{begins_as_projection}
-use Rattle.dps_names.specs.Terms.{is_kind}
+use Rattle.dps_scopes.specs.Faults.{place_of}
+use Rattle.dps_scopes.specs.Scopes.{begins_as_projection}
+use Rattle.dps_scopes.specs.Terms.{is_kind}
 
 -- `reduc`, the mark `private`, `+`, `in`, `if`, and an identifier that begins with `proj_`
 abbrev pub is_unbuilt_word : Lexeme → Bool

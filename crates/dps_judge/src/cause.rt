@@ -4,7 +4,7 @@ ghost use Rattle.dps_elab.specs.Rules.{flaw_of};
 ghost use Rattle.dps_judge.specs.Causes.{name_cause_text, flaw_text, expansion_cause_text, not_built};
 
 use dps_elab::{ExpansionCause, RuleCause};
-use dps_names::NameCause;
+use dps_scopes::NameCause;
 use dps_terms::NoMemory;
 use std::alloc::Global;
 

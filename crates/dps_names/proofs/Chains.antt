@@ -5,12 +5,12 @@ use Rattle.dps_syntax.specs.declared.tree.Part.{Part}
 use Rattle.dps_syntax.specs.declared.tree.Part.TheVariants.{Inner}
 use Rattle.dps_syntax.specs.Tree.{Derivation, Parts}
 use Rattle.dps_syntax.specs.Parts.{parts_of}
-use Rattle.dps_names.specs.declared.fault.NameFault.{NameFault}
-use Rattle.dps_names.specs.Outcome.{Outcome, done, faulty, and_then}
+use Rattle.dps_scopes.specs.declared.fault.NameFault.{NameFault}
+use Rattle.dps_scopes.specs.Outcome.{Outcome, done, faulty, and_then}
+use Rattle.dps_scopes.specs.Scopes.{Locals}
+use Rattle.dps_scopes.proofs.Rows.{IsRow, Reads, past_inner, faulted}
 use Rattle.dps_names.specs.Program.{Definition, Body, choice}
-use Rattle.dps_names.specs.Scopes.{Locals}
 use Rattle.dps_names.specs.Processes.{joined, choices, parallels, process}
-use Rattle.dps_names.proofs.Rows.{IsRow, Reads, past_inner, faulted}
 
 pub choices_are_row : (definitions : List Definition) (scope : Locals) → IsRow (process definitions scope) (choices definitions scope)
 choices_are_row definitions scope = record { ended = λ s. refl; passed = λ l ps s. refl; taken = λ t ps s. refl }

@@ -11,24 +11,24 @@ use Rattle.dps_syntax.specs.declared.tree.Part.{Part}
 use Rattle.dps_syntax.specs.declared.tree.Part.TheVariants.{Token, Inner}
 use Rattle.dps_syntax.specs.Tree.{Lexeme, Derivation, Parts, token}
 use Rattle.dps_syntax.specs.Parts.{parts_of}
-use Rattle.dps_names.specs.declared.fault.NameCause.TheVariants.{NameTwice}
-use Rattle.dps_names.specs.declared.fault.NameFault.{NameFault}
-use Rattle.dps_names.specs.declared.fault.NameRefusal.{NameRefusal}
-use Rattle.dps_names.specs.declared.fault.NameRefusal.TheVariants.{Fault, Memory}
-use Rattle.dps_names.specs.declared.meaning.Meaning.{Meaning}
-use Rattle.dps_names.specs.declared.meaning.Meaning.TheVariants.{Unknown as unknown}
-use Rattle.dps_names.specs.Faults.{place_of}
-use Rattle.dps_names.specs.Outcome.{Outcome, Answers, done, faulty, and_then, fault_at}
+use Rattle.dps_scopes.specs.declared.fault.NameCause.TheVariants.{NameTwice}
+use Rattle.dps_scopes.specs.declared.fault.NameFault.{NameFault}
+use Rattle.dps_scopes.specs.declared.fault.NameRefusal.{NameRefusal}
+use Rattle.dps_scopes.specs.declared.fault.NameRefusal.TheVariants.{Fault, Memory}
+use Rattle.dps_scopes.specs.declared.meaning.Meaning.{Meaning}
+use Rattle.dps_scopes.specs.declared.meaning.Meaning.TheVariants.{Unknown as unknown}
+use Rattle.dps_scopes.specs.Faults.{place_of}
+use Rattle.dps_scopes.specs.Outcome.{Outcome, Answers, done, faulty, and_then, fault_at}
+use Rattle.dps_scopes.specs.Scopes.{Locals, is_reserved, begins_as_projection, declared_meaning, function_or_named, named, defined}
+use Rattle.dps_scopes.specs.Terms.{is_kind}
+use Rattle.dps_scopes.proofs.Rows.{drop_next, at_token, at_inner, at_end}
+use Rattle.dps_scopes.proofs.Identifiers.{unreserved}
 use Rattle.dps_names.specs.declared.program.Side.{Side}
 use Rattle.dps_names.specs.Program.{Program, Definition, WrittenRule, Body, parallel, empty}
-use Rattle.dps_names.specs.Scopes.{Locals, is_reserved, begins_as_projection, declared_meaning, function_or_named, named, defined}
-use Rattle.dps_names.specs.Terms.{is_kind}
 use Rattle.dps_names.specs.Processes.{is_among, joined, parallels}
 use Rattle.dps_names.specs.Declarations.{declaring, declare_names, is_marked_private, functions, in_signature, rule_in, rules, parameters, body_of, earlier, first_lexeme, declaration, declarations}
 use Rattle.dps_names.specs.Answers.{IsRefused}
 use Rattle.dps_names.specs.DeclarationShapes.{one_name, one_function, one_parameter, IsFunction, IsNoFunction, AreParameters}
-use Rattle.dps_names.proofs.Rows.{drop_next, at_token, at_inner, at_end}
-use Rattle.dps_names.proofs.Identifiers.{unreserved}
 
 -- What all of a row says follows from what is known after its first pieces, and from those that are left.
 pub record Says {S A L : Type 0} (many : L → S → Outcome S A) (all : L) (start : S) (rest : L) (now : S) : Type 0 where

@@ -6,11 +6,11 @@ use Rattle.dps_lex.specs.declared.vocabulary.TokenKind.TheVariants as kinds
 use Rattle.dps_terms.specs.declared.Sym.{Sym}
 use Rattle.dps_terms.specs.Signature.{Signature, HasArity, shapes}
 use Rattle.dps_syntax.specs.Tree.{Lexeme, Parts, none, token, inner}
-use Rattle.dps_names.specs.declared.body.Step.{Step}
-use Rattle.dps_names.specs.declared.body.Step.TheVariants.{Project, Test}
+use Rattle.dps_scopes.specs.declared.body.Step.{Step}
+use Rattle.dps_scopes.specs.declared.body.Step.TheVariants.{Project, Test}
+use Rattle.dps_scopes.specs.Scopes.{Locals, local_count, most_arguments, with_tuple}
+use Rattle.dps_scopes.specs.Terms.{is_kind, count_inner, term}
 use Rattle.dps_names.specs.Program.{Written, Definition}
-use Rattle.dps_names.specs.Scopes.{Locals, local_count, most_arguments, with_tuple}
-use Rattle.dps_names.specs.Terms.{is_kind, count_inner, term}
 use Rattle.dps_names.specs.Processes.{Pattern, is_among, projection_symbol, with_name, unnamed, with_step, next_local, variable, tested, pattern, members, pattern_in}
 use Rattle.dps_names.specs.WellFormed.{IsTermOver, AreStepsOver, locals_behind}
 use Rattle.dps_names.proofs.Growing.{Grows, HasTuples, grows_refl, kept_arity}

@@ -5,17 +5,17 @@ use Rattle.std.specs.Prelude.{◌==◌, slice_get, ⊤}
 use Rattle.std.proofs.lemmas.Bool.{eqb-true}
 use Rattle.dps_terms.specs.Signature.{Signature}
 use Rattle.dps_syntax.specs.Tree.{Lexeme, Parts, none as no_parts, token, inner}
-use Rattle.dps_names.specs.declared.body.Channel.{Channel}
-use Rattle.dps_names.specs.declared.meaning.Meaning.{Meaning}
-use Rattle.dps_names.specs.declared.meaning.Meaning.TheVariants.{Local as a_local, Name as a_name, Function as a_function, Process as a_process, Projection as a_projection, Unknown as unknown}
+use Rattle.dps_scopes.specs.declared.body.Channel.{Channel}
+use Rattle.dps_scopes.specs.declared.meaning.Meaning.{Meaning}
+use Rattle.dps_scopes.specs.declared.meaning.Meaning.TheVariants.{Local as a_local, Name as a_name, Function as a_function, Process as a_process, Projection as a_projection, Unknown as unknown}
+use Rattle.dps_scopes.specs.Faults.{place_of}
+use Rattle.dps_scopes.specs.Outcome.{Outcome, done}
+use Rattle.dps_scopes.specs.Scopes.{Locals, local_count, meaning}
+use Rattle.dps_scopes.specs.Terms.{count_inner, term, terms, identifier}
 use Rattle.dps_names.specs.declared.shape.Start.{Start}
 use Rattle.dps_names.specs.declared.shape.Start.TheVariants.{Call, Group, Copies, Name, Input, Output, Test, Match, Nothing}
 use Rattle.dps_names.specs.Program.{Written, Body, nil, parallel, choice, copies, fresh, input, output, conditional, bind, call, bodies, Definition}
-use Rattle.dps_names.specs.Faults.{place_of}
 use Rattle.dps_names.specs.Starts.{start_of, by_start}
-use Rattle.dps_names.specs.Outcome.{Outcome, done}
-use Rattle.dps_names.specs.Scopes.{Locals, local_count, meaning}
-use Rattle.dps_names.specs.Terms.{count_inner, term, terms, identifier}
 use Rattle.dps_names.specs.Processes.{Pattern, number_of, joined, called, call_as, is_number_of_copies, pattern_in, channel, parallels, choices, process, grouped, repeated, restricted, received, sent, compared, matched, continued}
 use Rattle.dps_names.specs.WellFormed.{IsTermOver, TakesArguments, locals_behind, IsBodyOver, AreBodiesOver}
 use Rattle.dps_names.proofs.Growing.{Grows, HasTuples, grows_refl, grows_trans}

@@ -9,11 +9,11 @@ use Rattle.dps_terms.specs.Names.{with_symbol, with_name}
 use Rattle.dps_syntax.specs.Tree.{Lexeme, Parts, none as no_parts, token, inner}
 use Rattle.dps_syntax.specs.declared.tree.Decl.{Decl}
 use Rattle.dps_syntax.specs.declared.tree.Decl.TheVariants.{Free, Const, Fun, Reduc, Define, Query}
+use Rattle.dps_scopes.specs.Outcome.{Outcome, done, faulty, and_then}
+use Rattle.dps_scopes.specs.Scopes.{Locals, local_count, most_arguments, is_reserved, declared_meaning, is_unknown}
+use Rattle.dps_scopes.specs.Terms.{is_kind}
 use Rattle.dps_names.specs.declared.program.Side.{Side}
 use Rattle.dps_names.specs.Program.{Program, Definition, WrittenRule, Body, empty, parallel}
-use Rattle.dps_names.specs.Outcome.{Outcome, done, faulty, and_then}
-use Rattle.dps_names.specs.Scopes.{Locals, local_count, most_arguments, is_reserved, declared_meaning, is_unknown}
-use Rattle.dps_names.specs.Terms.{is_kind}
 use Rattle.dps_names.specs.Rules.{rule}
 use Rattle.dps_names.specs.Processes.{number_of, is_among, joined, parallels}
 use Rattle.dps_names.specs.Declarations.{with_signature, with_rules, with_definition, with_sides, declaring, declare_names, is_marked_private, names, with_constructor, functions, in_signature, rule_in, rules, parameters, body_of, define_with, define, first_lexeme, first_place, side, query, declaration, declarations, names_of}

@@ -9,12 +9,12 @@ use Rattle.dps_terms.specs.Tree.{trees, count}
 use Rattle.dps_terms.specs.Signature.{Signature, HasArity, IsNameThere, shapes}
 use Rattle.dps_terms.specs.Kinds.{AreBuiltOf}
 use Rattle.dps_syntax.specs.Tree.{Lexeme, Parts, none, token, inner}
-use Rattle.dps_names.specs.declared.meaning.Meaning.{Meaning}
-use Rattle.dps_names.specs.declared.meaning.Meaning.TheVariants.{Local as a_local, Name as a_name, Function as a_function, Process as a_process, Projection as a_projection, Unknown as unknown}
+use Rattle.dps_scopes.specs.declared.meaning.Meaning.{Meaning}
+use Rattle.dps_scopes.specs.declared.meaning.Meaning.TheVariants.{Local as a_local, Name as a_name, Function as a_function, Process as a_process, Projection as a_projection, Unknown as unknown}
+use Rattle.dps_scopes.specs.Outcome.{Outcome, done, and_then}
+use Rattle.dps_scopes.specs.Scopes.{Locals, local_count, most_arguments, with_tuple, meaning}
+use Rattle.dps_scopes.specs.Terms.{is_kind, count_inner, all_trees, applied, name_written, without_arguments, function_of, identifier_as, the_first, tuple_of, term, terms, identifier}
 use Rattle.dps_names.specs.Program.{Written, Definition}
-use Rattle.dps_names.specs.Outcome.{Outcome, done, and_then}
-use Rattle.dps_names.specs.Scopes.{Locals, local_count, most_arguments, with_tuple, meaning}
-use Rattle.dps_names.specs.Terms.{is_kind, count_inner, all_trees, applied, name_written, without_arguments, function_of, identifier_as, the_first, tuple_of, term, terms, identifier}
 use Rattle.dps_names.specs.WellFormed.{IsWrittenLeaf, IsTermOver}
 use Rattle.dps_names.proofs.Growing.{HasTuples, kept_arity}
 use Rattle.dps_names.proofs.Tupling.{IsTupled, tupled}

@@ -2,7 +2,7 @@
 -- and has the symbols of each of its tuples.
 use Rattle.std.proofs.Common.{◌≡◌, Bool, true, false, if◌then◌else◌, refl}
 use Rattle.dps_terms.specs.Signature.{Signature}
-use Rattle.dps_names.specs.Outcome.{Outcome, done, faulty, and_then}
+use Rattle.dps_scopes.specs.Outcome.{Outcome, done, faulty, and_then}
 use Rattle.dps_names.proofs.Growing.{Grows, HasTuples, grows_refl, grows_trans}
 
 pub record Reads {A : Type 0} (start : Signature) (P : Signature → A → Type 0) (a : A) (after : Signature) : Type 0 where

@@ -17,8 +17,8 @@ use Rattle.dps_terms.specs.Signature.{Symbol, Name, Signature, HasShape, HasArit
 use Rattle.dps_terms.specs.Names.{IsWord, tuple_name, symbol_named, name_named, with_symbol, with_name}
 use Rattle.dps_terms.specs.Kinds.{IsBuiltOf, AreBuiltOf, IsOver, IsLeafOver}
 use Rattle.dps_theory.specs.Projections.{HasProjections}
-use Rattle.dps_names.specs.Scopes.{is_reserved, projection_name, projections_from, tuple_symbols, tuple_at, with_tuple}
-use Rattle.dps_names.proofs.Identifiers.{unreserved}
+use Rattle.dps_scopes.specs.Scopes.{is_reserved, projection_name, projections_from, tuple_symbols, tuple_at, with_tuple}
+use Rattle.dps_scopes.proofs.Identifiers.{unreserved}
 
 -- the first place where a test passes
 

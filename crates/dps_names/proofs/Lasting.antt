@@ -6,8 +6,8 @@ use Rattle.dps_terms.specs.declared.PublicName.TheVariants.{Declared, At}
 use Rattle.dps_terms.specs.Tree.{Leaf, public, private, var, ax, entry, rigid, Tree, Trees, leaf, app, none as no_trees, more as more_trees, count}
 use Rattle.dps_terms.specs.Signature.{Signature, HasArity, shapes}
 use Rattle.dps_terms.specs.Kinds.{AreBuiltOf, IsSourceName}
-use Rattle.dps_names.specs.declared.body.Step.{Step}
-use Rattle.dps_names.specs.declared.body.Step.TheVariants.{Project, Test}
+use Rattle.dps_scopes.specs.declared.body.Step.{Step}
+use Rattle.dps_scopes.specs.declared.body.Step.TheVariants.{Project, Test}
 use Rattle.dps_names.specs.Program.{Written, Definition, Body, Bodies, nil, parallel, choice, copies, fresh, input, output, conditional, bind, call, none, more}
 use Rattle.dps_names.specs.WellFormed.{IsWrittenLeaf, IsTermOver, AreStepsOver, locals_behind, IsBodyOver, AreBodiesOver}
 use Rattle.dps_names.proofs.Growing.{Grows, kept_arity, kept_there}

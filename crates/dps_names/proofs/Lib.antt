@@ -1,12 +1,6 @@
-pub mod Places
 pub mod Numbers
-pub mod Signatures
 pub mod Growing
-pub mod Rows
-pub mod Identifiers
 pub mod Members
-pub mod Applying
-pub mod Listing
 pub mod Chains
 pub mod Shaping
 pub mod Processing
@@ -25,5 +19,3 @@ pub mod RuleTerms
 pub mod RuleSides
 pub mod RuleDeclarations
 pub mod RulesChecked
-pub mod Noting
-pub mod Ranking

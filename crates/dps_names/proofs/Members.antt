@@ -5,14 +5,14 @@ use Rattle.dps_syntax.specs.declared.tree.Part.{Part}
 use Rattle.dps_syntax.specs.declared.tree.Part.TheVariants.{Token, Inner}
 use Rattle.dps_syntax.specs.Tree.{Lexeme, Derivation, Parts, none, token, inner}
 use Rattle.dps_syntax.specs.Parts.{parts_of}
-use Rattle.dps_names.specs.declared.fault.NameFault.{NameFault}
-use Rattle.dps_names.specs.declared.body.Step.TheVariants.{Project}
-use Rattle.dps_names.specs.Outcome.{done, faulty, and_then}
+use Rattle.dps_scopes.specs.declared.fault.NameFault.{NameFault}
+use Rattle.dps_scopes.specs.declared.body.Step.TheVariants.{Project}
+use Rattle.dps_scopes.specs.Outcome.{done, faulty, and_then}
+use Rattle.dps_scopes.specs.Scopes.{Locals}
+use Rattle.dps_scopes.specs.Terms.{count_inner}
+use Rattle.dps_scopes.proofs.Rows.{at_token, at_inner, at_end}
 use Rattle.dps_names.specs.Program.{Definition}
-use Rattle.dps_names.specs.Scopes.{Locals}
-use Rattle.dps_names.specs.Terms.{count_inner}
 use Rattle.dps_names.specs.Processes.{Pattern, pattern, members, with_step, projection_symbol}
-use Rattle.dps_names.proofs.Rows.{at_token, at_inner, at_end}
 
 -- What all members say follows from what the first ones said, and from those that are left.
 pub record Takes (definitions : List Definition) (outside : Locals) (symbol from : ℕ) (all : Parts) (first : Pattern) (start : Signature) (rest : Parts) (i : ℕ) (so_far : Pattern) (now : Signature) : Type 0 where

@@ -1,8 +1,8 @@
 -- The value of a number, up to a greatest one.
 use Rattle.std.proofs.Common.{◌≡◌, ◌≤◌, ◌<◌, ℕ, ◌+◌, ◌-◌, ◌*◌, ◌^◌, min, List, [], ◌∷◌, refl, sym, ap, ◌∙◌, length, get_or, drop, arith}
 use Rattle.std.proofs.Math.Seq.{drop-length}
+use Rattle.dps_scopes.proofs.Rows.{drop_next}
 use Rattle.dps_names.specs.Processes.{value_behind}
-use Rattle.dps_names.proofs.Rows.{drop_next}
 
 capped : (x y : ℕ) (bs : List ℕ) → min x (2 ^ 32 - 1) ≡ min y (2 ^ 32 - 1) → min (value_behind x bs) (2 ^ 32 - 1) ≡ min (value_behind y bs) (2 ^ 32 - 1)
 capped x y [] e = e

@@ -1,6 +1,6 @@
 -- What holds of a piece of text that has no fault.
 use Rattle.std.proofs.Common.{◌≡◌, Bool, true, false, if◌then◌else◌, refl}
-use Rattle.dps_names.specs.Outcome.{Outcome, done, faulty, and_then}
+use Rattle.dps_scopes.specs.Outcome.{Outcome, done, faulty, and_then}
 
 abbrev pub Holds : {S A : Type 0} → Outcome S A → (A → S → Type 0) → Type 0
 Holds (done a s) P = P a s

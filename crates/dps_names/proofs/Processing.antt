@@ -2,16 +2,16 @@
 use Rattle.std.proofs.Common.{◌≡◌, ℕ, Bool, true, false, List, [], ◌∷◌, refl, sym, ap, ◌∙◌, if◌then◌else◌}
 use Rattle.dps_terms.specs.Signature.{Signature}
 use Rattle.dps_syntax.specs.Tree.{Lexeme, Parts, none, token, inner}
-use Rattle.dps_names.specs.declared.fault.NameFault.{NameFault}
-use Rattle.dps_names.specs.declared.fault.NameCause.TheVariants.{BadCopies}
-use Rattle.dps_names.specs.declared.body.Channel.{Channel}
-use Rattle.dps_names.specs.Outcome.{Outcome, done, faulty, and_then, fault_at}
+use Rattle.dps_scopes.specs.declared.fault.NameFault.{NameFault}
+use Rattle.dps_scopes.specs.declared.fault.NameCause.TheVariants.{BadCopies}
+use Rattle.dps_scopes.specs.declared.body.Channel.{Channel}
+use Rattle.dps_scopes.specs.Outcome.{Outcome, done, faulty, and_then, fault_at}
+use Rattle.dps_scopes.specs.Scopes.{Locals, meaning}
+use Rattle.dps_scopes.specs.Terms.{term, terms, count_inner}
 use Rattle.dps_names.specs.Program.{Written, Definition, Body, nil, parallel, copies, fresh, input, output, conditional, bind}
-use Rattle.dps_names.specs.Scopes.{Locals, meaning}
 use Rattle.dps_names.specs.declared.shape.Start.{Start}
 use Rattle.dps_names.specs.declared.shape.Start.TheVariants as starts
 use Rattle.dps_names.specs.Starts.{start_of, by_start}
-use Rattle.dps_names.specs.Terms.{term, terms, count_inner}
 use Rattle.dps_names.specs.Processes.{Pattern, number_of, is_number_of_copies, joined, call_as, channel, pattern_in, parallels, process, grouped, repeated, restricted, received, sent, compared, matched, continued}
 use Rattle.dps_names.specs.Shapes.{HasNoToken, IsNoGroup, IsEnded, IsNotPrefixed, IsNoExchange, IsNoComparison, IsGroup, IsContinued, IsPrefixed, IsExchange, IsComparison}
 

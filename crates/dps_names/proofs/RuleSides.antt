@@ -13,13 +13,14 @@ use Rattle.dps_terms.specs.Kinds.{IsBuiltOf, AreBuiltOf}
 use Rattle.dps_terms.proofs.Arguments.{count-trees}
 use Rattle.dps_theory.specs.Theory.{Rule}
 use Rattle.dps_syntax.specs.Tree.{Lexeme, Parts, none, token, inner, lexemes}
-use Rattle.dps_names.specs.declared.meaning.Meaning.{Meaning}
-use Rattle.dps_names.specs.declared.meaning.Meaning.TheVariants.{Local as a_local, Name as a_name, Function as a_function, Process as a_process, Projection as a_projection, Unknown as unknown}
+use Rattle.dps_scopes.specs.declared.meaning.Meaning.{Meaning}
+use Rattle.dps_scopes.specs.declared.meaning.Meaning.TheVariants.{Local as a_local, Name as a_name, Function as a_function, Process as a_process, Projection as a_projection, Unknown as unknown}
+use Rattle.dps_scopes.specs.Outcome.{Outcome, done, faulty}
+use Rattle.dps_scopes.specs.Scopes.{most_arguments, is_reserved, begins_as_projection, declared_meaning}
+use Rattle.dps_scopes.specs.Terms.{count_inner}
+use Rattle.dps_scopes.specs.RuleTerms.{InRule, declared_root, rule_terms, root_as}
 use Rattle.dps_names.specs.Program.{Definition, WrittenRule}
-use Rattle.dps_names.specs.Outcome.{Outcome, done, faulty}
-use Rattle.dps_names.specs.Scopes.{most_arguments, is_reserved, begins_as_projection, declared_meaning}
-use Rattle.dps_names.specs.Terms.{count_inner}
-use Rattle.dps_names.specs.Rules.{InRule, declared_root, rule_terms, root_as, sides_of, rule}
+use Rattle.dps_names.specs.Rules.{sides_of, rule}
 use Rattle.dps_names.proofs.Growing.{Grows, HasTuples, grows_refl, grows_trans, grows_symbol, tuples_symbol, kept_symbol, kept_arity, shape_at}
 use Rattle.dps_names.proofs.Giving.{Gives}
 use Rattle.dps_names.proofs.Outcomes.{OnDone, on_then, on_if}

@@ -13,13 +13,13 @@ use Rattle.dps_terms.specs.Kinds.{IsBuiltOf, AreBuiltOf, AnySymbol, IsOver, IsLe
 use Rattle.dps_terms.proofs.Arguments.{count-trees}
 use Rattle.dps_theory.specs.Theory.{IsRuleLeaf}
 use Rattle.dps_syntax.specs.Tree.{Lexeme, Parts, none, token, inner, lexemes}
-use Rattle.dps_names.specs.declared.meaning.Meaning.{Meaning}
-use Rattle.dps_names.specs.declared.meaning.Meaning.TheVariants.{Local as a_local, Name as a_name, Function as a_function, Process as a_process, Projection as a_projection, Unknown as unknown}
+use Rattle.dps_scopes.specs.declared.meaning.Meaning.{Meaning}
+use Rattle.dps_scopes.specs.declared.meaning.Meaning.TheVariants.{Local as a_local, Name as a_name, Function as a_function, Process as a_process, Projection as a_projection, Unknown as unknown}
+use Rattle.dps_scopes.specs.Outcome.{Outcome, done, and_then}
+use Rattle.dps_scopes.specs.Scopes.{most_arguments, begins_as_projection, with_tuple, declared_meaning, function_or_named, named, defined}
+use Rattle.dps_scopes.specs.Terms.{is_kind, count_inner}
+use Rattle.dps_scopes.specs.RuleTerms.{InRule, variable, variable_or_unknown, public_name, function_in_rule, identifier_in_rule, first_tree, with_signature, tuple_in_rule, has_more, rule_term, rule_terms}
 use Rattle.dps_names.specs.Program.{Definition}
-use Rattle.dps_names.specs.Outcome.{Outcome, done, and_then}
-use Rattle.dps_names.specs.Scopes.{most_arguments, begins_as_projection, with_tuple, declared_meaning, function_or_named, named, defined}
-use Rattle.dps_names.specs.Terms.{is_kind, count_inner}
-use Rattle.dps_names.specs.Rules.{InRule, variable, variable_or_unknown, public_name, function_in_rule, identifier_in_rule, first_tree, with_signature, tuple_in_rule, has_more, rule_term, rule_terms}
 use Rattle.dps_names.proofs.Growing.{Grows, HasTuples, grows_refl, grows_trans, grows_tuple, tuples_tuple, tuple_arity, kept_arity, kept_there, built_wider, symbol_found, function_arity, name_there}
 use Rattle.dps_names.proofs.Outcomes.{OnDone, on_then, on_if, on_weaker}
 

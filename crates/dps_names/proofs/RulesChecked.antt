@@ -21,8 +21,8 @@ use Rattle.dps_theory.specs.Conditions.{IsRuleOver, IsPlainRule, HasNoProjection
 use Rattle.dps_theory.proofs.TupleRules.{IsProjection, is_projection}
 use Rattle.dps_syntax.specs.Tree.{lexemes}
 use Rattle.dps_syntax.specs.Files.{lexeme_at, trees_of}
+use Rattle.dps_scopes.specs.Scopes.{begins_as_projection}
 use Rattle.dps_names.specs.Program.{Program, WrittenRule}
-use Rattle.dps_names.specs.Scopes.{begins_as_projection}
 use Rattle.dps_names.specs.Laws.{RulesAreCheckable}
 use Rattle.dps_names.proofs.Growing.{HasTuples, has_projections, symbol_found}
 use Rattle.dps_names.proofs.RuleTerms.{IsLeafOfRule, term_over, term_plain}

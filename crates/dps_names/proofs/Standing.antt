@@ -9,12 +9,12 @@ use Rattle.std.proofs.lemmas.Option.{none-some, same_Some, slice_get-get_or}
 use Rattle.std.proofs.lemmas.List.Quantifiers.{position-Some}
 use Rattle.dps_terms.specs.Signature.{Signature, HasArity, IsNameThere, shapes}
 use Rattle.dps_terms.specs.Names.{symbol_named, name_named}
-use Rattle.dps_names.specs.declared.meaning.Projection.{Projection}
-use Rattle.dps_names.specs.declared.meaning.Meaning.{Meaning}
-use Rattle.dps_names.specs.declared.meaning.Meaning.TheVariants.{Local as a_local, Name as a_name, Function as a_function, Process as a_process, Projection as a_projection, Unknown as unknown}
+use Rattle.dps_scopes.specs.declared.meaning.Projection.{Projection}
+use Rattle.dps_scopes.specs.declared.meaning.Meaning.{Meaning}
+use Rattle.dps_scopes.specs.declared.meaning.Meaning.TheVariants.{Local as a_local, Name as a_name, Function as a_function, Process as a_process, Projection as a_projection, Unknown as unknown}
+use Rattle.dps_scopes.specs.Scopes.{Locals, local_count, first_found, local_named, is_projection_word, are_projection_digits, begins_as_projection, projection_of, defined, named, function_or_named, declared_meaning, projection_or_declared, local_or_declared, meaning}
 use Rattle.dps_names.specs.Program.{Definition}
 use Rattle.dps_names.proofs.Growing.{function_arity, name_there}
-use Rattle.dps_names.specs.Scopes.{Locals, local_count, first_found, local_named, is_projection_word, are_projection_digits, begins_as_projection, projection_of, defined, named, function_or_named, declared_meaning, projection_or_declared, local_or_declared, meaning}
 
 -- one of the projections of a tuple of two to eight members
 pub record IsOfTuple (projection : Projection) : Type 0 where

@@ -1,7 +1,7 @@
 -- The signature with the symbols of the tuples of a length.
 use Rattle.std.proofs.Common.{◌≤◌, ℕ, ◌+◌}
 use Rattle.dps_terms.specs.Signature.{Signature, HasArity, shapes}
-use Rattle.dps_names.specs.Scopes.{with_tuple}
+use Rattle.dps_scopes.specs.Scopes.{with_tuple}
 use Rattle.dps_names.proofs.Growing.{Grows, HasTuples, grows_tuple, tuples_tuple, tuple_arity, projection_arity}
 
 -- the signature behind grew from the one before, and has the tuple's symbol and its projections

@@ -1,9 +1,9 @@
 -- What a file is answered.
 use Rattle.std.specs.Prelude.{◌≡◌, ⊤, List}
 use Rattle.dps_syntax.specs.declared.tree.Decl.{Decl}
-use Rattle.dps_names.specs.declared.fault.NameRefusal.{NameRefusal}
-use Rattle.dps_names.specs.declared.fault.NameRefusal.TheVariants.{Fault, Memory}
-use Rattle.dps_names.specs.Outcome.{done, faulty}
+use Rattle.dps_scopes.specs.declared.fault.NameRefusal.{NameRefusal}
+use Rattle.dps_scopes.specs.declared.fault.NameRefusal.TheVariants.{Fault, Memory}
+use Rattle.dps_scopes.specs.Outcome.{done, faulty}
 use Rattle.dps_names.specs.Program.{Program}
 use Rattle.dps_names.specs.Declarations.{names_of}
 

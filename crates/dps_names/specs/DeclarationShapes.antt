@@ -3,9 +3,9 @@ use Rattle.std.specs.Prelude.{◌≡◌, ℕ, Bool, List, [], ◌∷◌, ◌++�
 use Rattle.dps_terms.specs.Names.{with_name}
 use Rattle.dps_syntax.specs.declared.grammar.Production.{Production}
 use Rattle.dps_syntax.specs.Tree.{Lexeme, Parts, token, inner}
-use Rattle.dps_names.specs.declared.fault.NameCause.TheVariants.{NameTwice}
-use Rattle.dps_names.specs.declared.fault.NameRefusal.{NameRefusal}
-use Rattle.dps_names.specs.Outcome.{Outcome, Answers, done, and_then, fault_at}
+use Rattle.dps_scopes.specs.declared.fault.NameCause.TheVariants.{NameTwice}
+use Rattle.dps_scopes.specs.declared.fault.NameRefusal.{NameRefusal}
+use Rattle.dps_scopes.specs.Outcome.{Outcome, Answers, done, and_then, fault_at}
 use Rattle.dps_names.specs.Program.{Program}
 use Rattle.dps_names.specs.Processes.{is_among}
 use Rattle.dps_names.specs.Declarations.{Known, with_signature, names, declare_names, is_marked_private, functions, declaring, with_constructor, define, parameters, define_with, query, side, with_sides}

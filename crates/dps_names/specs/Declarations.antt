@@ -8,13 +8,13 @@ use Rattle.dps_terms.specs.Names.{with_symbol, with_name}
 use Rattle.dps_syntax.specs.Tree.{Lexeme, Parts, none as no_parts, token, inner}
 use Rattle.dps_syntax.specs.declared.tree.Decl.{Decl}
 use Rattle.dps_syntax.specs.declared.tree.Decl.TheVariants.{Free, Const, Fun, Reduc, Define, Query}
-use Rattle.dps_names.specs.declared.fault.NameCause.TheVariants.{NameTwice, ReservedName, LargeArity}
+use Rattle.dps_scopes.specs.declared.fault.NameCause.TheVariants.{NameTwice, ReservedName, LargeArity}
+use Rattle.dps_scopes.specs.Faults.{place_of}
+use Rattle.dps_scopes.specs.Outcome.{Outcome, done, faulty, and_then, fault_at}
+use Rattle.dps_scopes.specs.Scopes.{Locals, most_arguments, is_reserved, declared_meaning, is_unknown}
+use Rattle.dps_scopes.specs.Terms.{is_kind}
 use Rattle.dps_names.specs.declared.program.Side.{Side}
 use Rattle.dps_names.specs.Program.{Program, Definition, WrittenRule, Body, nowhere, empty, parallel}
-use Rattle.dps_names.specs.Faults.{place_of}
-use Rattle.dps_names.specs.Outcome.{Outcome, done, faulty, and_then, fault_at}
-use Rattle.dps_names.specs.Scopes.{Locals, most_arguments, is_reserved, declared_meaning, is_unknown}
-use Rattle.dps_names.specs.Terms.{is_kind}
 use Rattle.dps_names.specs.Rules.{rule}
 use Rattle.dps_names.specs.Processes.{number_of, is_among, joined, parallels}
 

@@ -4,8 +4,8 @@ use Rattle.dps_syntax.specs.declared.tree.Decl.{Decl}
 use Rattle.dps_syntax.specs.Files.{trees_of}
 use Rattle.dps_syntax.specs.LawsOfFiles.{IsTreeOfText}
 use Rattle.dps_theory.specs.Conditions.{AreCheckable}
+use Rattle.dps_scopes.specs.Outcome.{done}
 use Rattle.dps_names.specs.Program.{Program}
-use Rattle.dps_names.specs.Outcome.{done}
 use Rattle.dps_names.specs.Declarations.{names_of}
 use Rattle.dps_names.specs.WellFormed.{IsWellFormed}
 

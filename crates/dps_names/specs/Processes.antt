@@ -5,18 +5,18 @@ use Rattle.dps_lex.specs.declared.vocabulary.TokenKind.TheVariants as kinds
 use Rattle.dps_terms.specs.declared.Sym.{Sym}
 use Rattle.dps_terms.specs.Signature.{Signature}
 use Rattle.dps_syntax.specs.Tree.{Lexeme, Parts, none as no_parts, token, inner}
-use Rattle.dps_names.specs.declared.fault.NameCause.TheVariants.{NameTwice, UnknownName, WrongArity, WrongKind, LargeArity, BadCopies}
-use Rattle.dps_names.specs.declared.body.Channel.{Channel}
-use Rattle.dps_names.specs.declared.body.Step.{Step}
-use Rattle.dps_names.specs.declared.body.Step.TheVariants.{Project, Test}
+use Rattle.dps_scopes.specs.declared.fault.NameCause.TheVariants.{NameTwice, UnknownName, WrongArity, WrongKind, LargeArity, BadCopies}
+use Rattle.dps_scopes.specs.declared.body.Channel.{Channel}
+use Rattle.dps_scopes.specs.declared.body.Step.{Step}
+use Rattle.dps_scopes.specs.declared.body.Step.TheVariants.{Project, Test}
+use Rattle.dps_scopes.specs.declared.meaning.Meaning.{Meaning}
+use Rattle.dps_scopes.specs.declared.meaning.Meaning.TheVariants.{Local as a_local, Name as a_name, Function as a_function, Process as a_process, Projection as a_projection, Unknown as unknown}
+use Rattle.dps_scopes.specs.Faults.{place_of}
+use Rattle.dps_scopes.specs.Outcome.{Outcome, done, and_then, fault_at}
+use Rattle.dps_scopes.specs.Scopes.{Locals, local_count, most_arguments, with_tuple, meaning}
+use Rattle.dps_scopes.specs.Terms.{is_kind, count_inner, term, terms, identifier}
 use Rattle.dps_names.specs.Program.{Written, Body, Bodies, nil, parallel, choice, copies, fresh, input, output, conditional, bind, call, bodies, Definition}
-use Rattle.dps_names.specs.declared.meaning.Meaning.{Meaning}
-use Rattle.dps_names.specs.declared.meaning.Meaning.TheVariants.{Local as a_local, Name as a_name, Function as a_function, Process as a_process, Projection as a_projection, Unknown as unknown}
-use Rattle.dps_names.specs.Faults.{place_of}
 use Rattle.dps_names.specs.Starts.{start_of, by_start}
-use Rattle.dps_names.specs.Outcome.{Outcome, done, and_then, fault_at}
-use Rattle.dps_names.specs.Scopes.{Locals, local_count, most_arguments, with_tuple, meaning}
-use Rattle.dps_names.specs.Terms.{is_kind, count_inner, term, terms, identifier}
 
 -- What a pattern says: steps, in order, and the texts of the locals that it makes.
 pub record Pattern : Type 0 where

@@ -4,18 +4,9 @@ use Rattle.dps_lex.specs.declared.vocabulary.Place.{Place}
 use Rattle.dps_terms.specs.Signature.{Signature}
 use Rattle.dps_theory.specs.Theory.{Rule}
 use Rattle.dps_names.specs.declared.program.Side.{Side}
-pub use Rattle.dps_names.specs.Written.{Written}
-pub use Rattle.dps_names.specs.Body.{Body, Bodies, nil, parallel, choice, copies, fresh, input, output, conditional, bind, call, none, more, bodies}
-
--- The locals at a place of a process are the parameters of its definition, the names that `new` binds, and what patterns
--- take apart. They are numbered from 0, from the outermost binder inwards. In the terms of a body, `var i` is the i-th
--- local.
-
--- `let P(x,y,..) = p.`
-pub record Definition : Type 0 where
-  pub name : List ℕ
-  pub parameters : ℕ
-  pub body : Body
+pub use Rattle.dps_scopes.specs.Written.{Written}
+pub use Rattle.dps_scopes.specs.Body.{Body, Bodies, nil, parallel, choice, copies, fresh, input, output, conditional, bind, call, none, more, bodies}
+pub use Rattle.dps_scopes.specs.Definition.{Definition}
 
 -- a rule, where it begins, and the texts of its variables: `var i` in it is the i-th
 pub record WrittenRule : Type 0 where

@@ -3,9 +3,9 @@ use Rattle.std.specs.Prelude.{◌≡◌, ⊤, List}
 use Rattle.dps_terms.specs.Signature.{Signature}
 use Rattle.dps_syntax.specs.declared.grammar.Production.{Production}
 use Rattle.dps_syntax.specs.Tree.{Lexeme, Parts, none, token, inner}
-use Rattle.dps_names.specs.Outcome.{done}
+use Rattle.dps_scopes.specs.Outcome.{done}
+use Rattle.dps_scopes.specs.Scopes.{Locals}
 use Rattle.dps_names.specs.Program.{Definition, nil}
-use Rattle.dps_names.specs.Scopes.{Locals}
 use Rattle.dps_names.specs.Processes.{grouped, repeated, restricted, received, sent, compared, matched, continued}
 
 -- no token stands first, or no production does

@@ -1,8 +1,8 @@
 -- How a proof stores what a pattern says.
 use Rattle.std.specs.Prelude.{ℕ, List, refl}
 use Rattle.std.specs.Coded.{Coded, code_by, coded×, coded_list, coded_ℕ}
-use Rattle.dps_names.specs.declared.body.Step.{Step}
-use Rattle.dps_names.specs.StoredBody.{step_code}
+use Rattle.dps_scopes.specs.declared.body.Step.{Step}
+use Rattle.dps_scopes.specs.StoredBody.{step_code}
 use Rattle.dps_names.specs.Processes.{Pattern}
 
 abbrev pub pattern_code : Coded Pattern

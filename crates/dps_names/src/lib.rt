@@ -4,27 +4,14 @@
 //! `specs/Declarations.antt` has the program of a list of declarations, or the first fault of its names.
 #![tactic(auto)]
 
-mod body;
 mod declaration;
-mod definitions;
-mod fault;
 pub mod laws;
-mod meaning;
-mod parts;
+mod number;
 mod pattern;
 mod process;
 mod program;
 mod rule;
-mod scope;
 mod shape;
-mod signature;
-mod term;
-mod texts;
-mod written;
 
-pub use body::{Body, BodyView, Channel, Step};
 pub use declaration::resolve;
-pub use fault::{NameCause, NameFault, NameRefusal};
-pub use meaning::{Meaning, Projection};
-pub use program::{Definition, Program, Side, WrittenRule};
-pub use written::{Use, Written};
+pub use program::{Program, Side, WrittenRule};

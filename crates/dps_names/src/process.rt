@@ -1,23 +1,24 @@
 //! Processes. Each function reads the parts of one production.
 ghost use Rattle.std.specs.Prelude.{◌≡◌, is_some, IfSome};
 ghost use Rattle.dps_syntax.specs.Parts.{parts_of};
-ghost use Rattle.dps_names.specs.Body.{parallel, choice};
-ghost use Rattle.dps_names.specs.Outcome.{Answers};
-ghost use Rattle.dps_names.specs.Blocks.{blocks};
-ghost use Rattle.dps_names.specs.Scopes.{meaning};
-ghost use Rattle.dps_names.specs.Terms.{count_inner, terms};
+ghost use Rattle.dps_scopes.specs.Body.{parallel, choice};
+ghost use Rattle.dps_scopes.specs.Outcome.{Answers};
+ghost use Rattle.dps_scopes.specs.Blocks.{blocks};
+ghost use Rattle.dps_scopes.specs.Scopes.{meaning};
+ghost use Rattle.dps_scopes.specs.Terms.{count_inner, terms};
 ghost use Rattle.dps_names.specs.Processes.{number_of, is_number_of_copies, joined, call_as, channel, parallels, choices, process, grouped, repeated, restricted, received, sent, compared, matched, continued};
 
-use crate::definitions::Definitions;
-use crate::fault::{fault_at, place_of};
-use crate::meaning::{Meaning, meaning_of};
-use crate::parts::{count_inner, number_of};
+use crate::number::number_of;
 use crate::pattern::pattern_in;
-use crate::scope::Scope;
 use crate::shape::{Start, begun, comparison, continuation, exchange, group, prefix, start_of};
-use crate::signature::Ranked;
-use crate::term::{identifier, term, terms};
-use crate::{Body, Channel, NameCause, NameRefusal};
+use dps_scopes::definitions::Definitions;
+use dps_scopes::fault::{fault_at, place_of};
+use dps_scopes::meaning::{Meaning, meaning_of};
+use dps_scopes::parts::count_inner;
+use dps_scopes::scope::Scope;
+use dps_scopes::signature::Ranked;
+use dps_scopes::term::{identifier, term, terms};
+use dps_scopes::{Body, Channel, NameCause, NameRefusal};
 use dps_syntax::{Leaf, Part};
 use dps_terms::NoMemory;
 use std::alloc::{AllocError, Global};
@@ -53,7 +54,7 @@ fn joined_by_choice(mut parts: Vec<Body>) -> Body
 
 /// Par = Sum { "|" Sum }: the processes between the signs.
 #[cycle(process)]
-#[tactic(auto, using(crate::proofs::Rows::for_rows, crate::proofs::Chains::for_parallels))]
+#[tactic(auto, using(dps_scopes::proofs::Rows::for_rows, crate::proofs::Chains::for_parallels))]
 pub(crate) fn parallels(
     alloc: Global,
     definitions: &Definitions,
@@ -76,7 +77,7 @@ pub(crate) fn parallels(
 
 /// Sum = Pre { "+" Pre }
 #[cycle(process)]
-#[tactic(auto, using(crate::proofs::Rows::for_rows, crate::proofs::Chains::for_choices))]
+#[tactic(auto, using(dps_scopes::proofs::Rows::for_rows, crate::proofs::Chains::for_choices))]
 fn choices(
     alloc: Global,
     definitions: &Definitions,

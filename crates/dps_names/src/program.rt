@@ -1,17 +1,9 @@
 //! What a file says once its names are looked up.
-use crate::Body;
 use dps_lex::Place;
+use dps_scopes::{Body, Definition};
 use dps_terms::Signature;
 use dps_theory::Rule;
 use std::marker::Model;
-
-/// `let P(x,y,..) = p.`: the parameters are the first locals of the body.
-#[derive(Drop)]
-pub struct Definition {
-    pub name: String,
-    pub parameters: usize,
-    pub body: Body,
-}
 
 /// A rule, where it begins, and the texts of its variables: `var i` in it is the i-th, by first occurrence.
 #[derive(Drop)]
@@ -36,18 +28,6 @@ pub struct Program {
     pub definitions: Vec<Definition>,
     pub left: Side,
     pub right: Side,
-}
-
-impl Model for Definition {
-    ghost use Rattle.std.specs.Prelude.{string_bytes};
-    ghost use Rattle.dps_names.specs.Program.{Definition};
-    ghost use Rattle.dps_names.specs.StoredProgram.{definition_code};
-
-    ghost Value = { Definition };
-
-    ghost coded = { definition_code };
-
-    ghost view = { λ a. record { name = string_bytes a.name; parameters = a.parameters; body = a.body } };
 }
 
 impl Model for WrittenRule {

@@ -2,8 +2,8 @@ use Rattle.std.proofs.Common.{◌≡◌, get_or, sym, ap, ◌∙◌, arith, subs
 use Rattle.dps_syntax.specs.declared.tree.Part.TheVariants.{Inner}
 use Rattle.dps_syntax.specs.Tree.{Derivation, count}
 use Rattle.dps_syntax.specs.Parts.{parts_of}
+use Rattle.dps_scopes.proofs.Rows.{inner_is_smaller}
 use Rattle.dps_names.specs.Declarations.{first_lexeme}
-use Rattle.dps_names.proofs.Rows.{inner_is_smaller}
 use Rattle.dps_names.proofs.Declaring.{leaves_within}
 use Rattle.dps_names.proofs.declaration.+first_leaf.Goals as goal
 

@@ -1,6 +1,6 @@
 use Rattle.std.proofs.lemmas.Result.{err_from_is_err_and}
 use Rattle.dps_syntax.specs.Parts.{parts_of}
-use Rattle.dps_names.specs.Blocks.{blocks}
+use Rattle.dps_scopes.specs.Blocks.{blocks}
 use Rattle.dps_names.proofs.Declaring.{body_told, body_refused}
 use Rattle.dps_names.proofs.declaration.body_of.Goals as goal
 

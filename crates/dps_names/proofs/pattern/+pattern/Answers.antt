@@ -2,7 +2,7 @@ use Rattle.std.proofs.Common.{◌≡◌, get_or, sym, ap, ◌∙◌, arith}
 use Rattle.dps_syntax.specs.declared.tree.Part.TheVariants.{Inner}
 use Rattle.dps_syntax.specs.Tree.{Derivation, count}
 use Rattle.dps_syntax.specs.Parts.{parts_of}
-use Rattle.dps_names.proofs.Rows.{inner_is_smaller}
+use Rattle.dps_scopes.proofs.Rows.{inner_is_smaller}
 use Rattle.dps_names.proofs.pattern.+pattern.Goals as goal
 
 pub members-read_pattern-requires : goal.members-read_pattern-requires

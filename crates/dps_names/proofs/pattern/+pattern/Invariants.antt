@@ -1,7 +1,7 @@
 use Rattle.std.proofs.Common.{◌*◌, ◌+◌, drop}
 use Rattle.dps_syntax.specs.Tree.{count}
 use Rattle.dps_syntax.specs.Parts.{parts_of}
-use Rattle.dps_names.specs.Blocks.{blocks}
+use Rattle.dps_scopes.specs.Blocks.{blocks}
 use Rattle.dps_names.proofs.Members.{Takes}
 use Rattle.dps_names.proofs.pattern.+pattern.Given as goal
 

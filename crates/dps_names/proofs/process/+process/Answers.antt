@@ -2,8 +2,8 @@ use Rattle.std.proofs.Common.{◌≡◌, get_or, sym, ap, ◌∙◌, arith}
 use Rattle.dps_syntax.specs.declared.tree.Part.TheVariants.{Inner}
 use Rattle.dps_syntax.specs.Tree.{Derivation, count}
 use Rattle.dps_syntax.specs.Parts.{parts_of}
-use Rattle.dps_names.specs.Blocks.{blocks}
-use Rattle.dps_names.proofs.Rows.{inner_is_smaller}
+use Rattle.dps_scopes.specs.Blocks.{blocks}
+use Rattle.dps_scopes.proofs.Rows.{inner_is_smaller}
 use Rattle.dps_names.proofs.Processing.{grouped_none, repeated_none, restricted_none, received_none, sent_none, compared_none, matched_none, continued_none}
 use Rattle.dps_names.proofs.process.+process.Goals as goal
 

@@ -1,9 +1,9 @@
 use Rattle.std.proofs.Common.{drop}
 use Rattle.dps_syntax.specs.Tree.{count}
 use Rattle.dps_syntax.specs.Parts.{parts_of}
-use Rattle.dps_names.specs.Blocks.{blocks}
+use Rattle.dps_scopes.specs.Blocks.{blocks}
+use Rattle.dps_scopes.proofs.Rows.{Reads}
 use Rattle.dps_names.specs.Processes.{choices, parallels}
-use Rattle.dps_names.proofs.Rows.{Reads}
 use Rattle.dps_names.proofs.process.+process.Given as goal
 
 abbrev pub decreases-parallels : goal.decreases-parallels

@@ -1,14 +1,14 @@
 use Rattle.std.proofs.Common.{◌≡◌, ◌<◌, ◌∷◌, length, take, drop, sym, ap, ◌∙◌, arith, rules, subst, Err}
 use Rattle.std.proofs.lemmas.List.{length-drop}
-use Rattle.dps_names.specs.Body.{bodies}
-use Rattle.dps_names.specs.declared.body.Step.{Step}
+use Rattle.dps_scopes.specs.Body.{bodies}
+use Rattle.dps_scopes.specs.declared.body.Step.{Step}
 use Rattle.dps_elab.specs.declared.stop.Stop.TheVariants.{TooLarge}
 use Rattle.dps_elab.proofs.Arms.{output_large_sent, output_large_next, output_written, input_large_fits, input_written, conditional_large_first, conditional_large_second, conditional_large_then, conditional_large_else, conditional_written, bind_large_value, bind_large_fits, bind_large_unfit, bind_written, project_large_fits, project_large_unfit, project_written, test_large_second, test_large_fits, test_large_unfit, test_written, pair_large_first, pair_large_last, pair_written, copies_written, none_left, head_tail}
 use Rattle.std.specs.Option.{option_copied}
 use Rattle.dps_elab.specs.Writing.{other_body, numbers_of, IsTooLargeSide, taken_apart_in}
 use Rattle.dps_elab.specs.Turns.{written_in, chain_of}
-use Rattle.dps_names.specs.declared.body.BodyView.{BodyView}
-use Rattle.dps_names.specs.Views.{shown}
+use Rattle.dps_scopes.specs.declared.body.BodyView.{BodyView}
+use Rattle.dps_scopes.specs.Views.{shown}
 use Rattle.dps_elab.proofs.writer.Writer.+write.Goals as goal
 
 pub output-returns-in_err-sent-clause-large : goal.output-returns-in_err-sent-clause-large
