@@ -2,7 +2,8 @@ pub mod Plain
 pub mod Words
 pub mod Answer
 pub mod Playing
-pub mod Stored
+pub mod Table
+pub mod Groups
 pub mod Following
 pub mod Matching
 pub mod Nodes

@@ -1,25 +1,32 @@
 //! Trace equivalence of problems whose processes only put out messages, where no rule computes.
 //!
 //! The tree has one node for each list of channels on which outputs can follow one another. A node holds the
-//! configurations of both sides in which runs with these labels end, each settled: only outputs stand, and equal ones
-//! stand once.
+//! configurations of both sides in which runs with these labels end, each settled: only outputs stand.
+//!
+//! A table gives each output and each message of the problem a number, equal ones the same. A configuration is then the
+//! numbers of its parts in ascending order, so that it stands once, whatever the order of its parts; and the
+//! configurations with one frame stand together, by the numbers of its messages.
 #![tactic(auto)]
 
 ghost use Rattle.std.specs.Prelude.{IfOk};
 ghost use Rattle.dps_tree.specs.Answer.{IsPlainAnswer};
 ghost use Rattle.dps_tree.specs.Plain.{IsPlain};
 
-mod config;
+mod bags;
 mod digest;
 mod following;
-mod found;
+mod group;
 mod matching;
+mod next;
 mod node;
+mod places;
 mod plain;
+mod table;
 #[cfg(test)]
 mod tests;
 
 use crate::node::Node;
+use crate::table::Table;
 use dps_branch::Side;
 use dps_process::Problem;
 use dps_terms::NoMemory;
@@ -43,17 +50,19 @@ pub fn plain_check(alloc: Global, problem: &Problem) -> Result<Option<PlainAttac
     requires { IsPlain problem.now }
     ensures { IfOk result (IsPlainAnswer problem.now) }
 {
-    let theory = problem.theory();
+    let mut table = Table::new(alloc);
+    let left = table.bag(alloc, problem.side(Side::Left))?;
+    let right = table.bag(alloc, problem.side(Side::Right))?;
     let mut pending = Vec::new(alloc);
-    pending.push(Node::root(alloc, problem)?)?;
+    pending.push(Node::root(alloc, &table, left, right)?)?;
     while let Some(node) = pending.pop() {
-        if let Some(side) = node.attacked_side(alloc, theory)? {
+        if let Some(side) = node.attacked_side(alloc, problem.theory(), &table)? {
             return Ok(Some(PlainAttack {
                 side,
                 channels: node.into_channels(),
             }));
         }
-        let mut children = node.children(alloc)?;
+        let mut children = node.children(alloc, &table)?;
         pending.append(&mut children)?;
     }
     Ok(None)

@@ -1,13 +1,13 @@
 //! Nodes of the tree of outputs.
-ghost use Rattle.std.specs.Prelude.{◌≡◌, [], ◌∷◌, IfOk};
-ghost use Rattle.dps_process.specs.Problem.{IsLawful};
+ghost use Rattle.std.specs.Prelude.{◌≡◌, IfOk};
+ghost use Rattle.dps_tree.specs.Groups.{StandForSome, HoldsFrame};
 ghost use Rattle.dps_tree.specs.Matching.{AreLevel};
 
-use crate::config::Config;
 use crate::following::{add_channels, following};
-use crate::matching::are_matched;
+use crate::group::Group;
+use crate::matching::{are_matched, is_mutual};
+use crate::table::Table;
 use dps_branch::Side;
-use dps_process::Problem;
 use dps_terms::NoMemory;
 use dps_theory::Theory;
 use std::alloc::{AllocError, Global};
@@ -17,20 +17,26 @@ use std::collections::BTreeSet;
 #[derive(Drop)]
 pub(crate) struct Node {
     channels: Vec<u32>,
-    left: Vec<Config>,
-    right: Vec<Config>,
+    left: Vec<Group>,
+    right: Vec<Group>,
 }
 
 impl Node {
-    ghost use Rattle.dps_tree.specs.Nodes.{IsRoot, HoldsOffers, IsChild, AreChildren, IsSideAnswer};
+    ghost use Rattle.dps_tree.specs.Nodes.{IsRoot, IsNamedNode, HoldsOffers, IsChild, AreChildren, IsSideAnswer};
 
-    /// The node of no output.
-    pub(crate) fn root(alloc: Global, problem: &Problem) -> Result<Node, NoMemory>
-        ensures root { IfOk result (IsRoot problem.now) }
-        ensures lawful { IsLawful problem.now }
+    /// The node of no output, where the sides come to these outputs.
+    pub(crate) fn root(
+        alloc: Global,
+        table: &Table<'_>,
+        left: Vec<usize>,
+        right: Vec<usize>,
+    ) -> Result<Node, NoMemory>
+        requires on_left { StandForSome table.now left.items }
+        requires on_right { StandForSome table.now right.items }
+        ensures { IfOk result (IsRoot table.now left.items right.items) }
     {
-        let left = Config::start(alloc, problem.side(Side::Left))?;
-        let right = Config::start(alloc, problem.side(Side::Right))?;
+        let left = Group::start(alloc, left)?;
+        let right = Group::start(alloc, right)?;
         Ok(Node {
             channels: Vec::new(alloc),
             left: vec![in alloc; left]?,
@@ -43,52 +49,59 @@ impl Node {
         &self,
         alloc: Global,
         theory: &Theory,
+        table: &Table<'_>,
     ) -> Result<Option<Side>, NoMemory>
-        requires { AreLevel self.now.left.items self.now.right.items }
-        ensures { IfOk result (IsSideAnswer theory.now self.now) }
+        requires { AreLevel (HoldsFrame table.now self.now.left.items) (HoldsFrame table.now self.now.right.items) }
+        ensures { IfOk result (IsSideAnswer table.now theory.now self.now) }
     {
-        if !are_matched(alloc, theory, &self.left, &self.right)? {
+        if !are_matched(alloc, theory, table, &self.left, &self.right)? {
             return Ok(Some(Side::Left));
         }
-        if !are_matched(alloc, theory, &self.right, &self.left)? {
+        if is_mutual(&self.left, &self.right) {
+            return Ok(None);
+        }
+        if !are_matched(alloc, theory, table, &self.right, &self.left)? {
             return Ok(Some(Side::Right));
         }
         Ok(None)
     }
 
     /// The nodes of one more output, the greatest channel first.
-    pub(crate) fn children(&self, alloc: Global) -> Result<Vec<Node>, NoMemory>
-        ensures { IfOk result (λ children. AreChildren self.now children.items) }
+    pub(crate) fn children(&self, alloc: Global, table: &Table<'_>) -> Result<Vec<Node>, NoMemory>
+        requires { IsNamedNode table.now self.now }
+        ensures { IfOk result (λ children. AreChildren table.now self.now children.items) }
     {
-        let mut channels = self.offered(alloc)?;
+        let mut channels = self.offered(alloc, table)?;
         let mut children = Vec::new(alloc);
         while let Some(channel) = channels.pop_last() {
-            children.push(self.child(alloc, channel)?)?;
+            children.push(self.child(alloc, table, channel)?)?;
         }
         Ok(children)
     }
 
     /// The channels on which some configuration offers an output.
-    fn offered(&self, alloc: Global) -> Result<BTreeSet<u32>, NoMemory>
-        ensures { IfOk result (λ channels. HoldsOffers self.now channels.keys) }
+    fn offered(&self, alloc: Global, table: &Table<'_>) -> Result<BTreeSet<u32>, NoMemory>
+        requires { IsNamedNode table.now self.now }
+        ensures { IfOk result (λ channels. HoldsOffers table.now self.now channels.keys) }
     {
         let mut channels = BTreeSet::new(alloc);
-        add_channels(&self.left, &mut channels)?;
-        add_channels(&self.right, &mut channels)?;
+        add_channels(table, &self.left, &mut channels)?;
+        add_channels(table, &self.right, &mut channels)?;
         Ok(channels)
     }
 
     /// The node of one more output, on this channel.
-    fn child(&self, alloc: Global, channel: u32) -> Result<Node, NoMemory>
-        ensures { IfOk result (IsChild self.now channel) }
+    fn child(&self, alloc: Global, table: &Table<'_>, channel: u32) -> Result<Node, NoMemory>
+        requires { IsNamedNode table.now self.now }
+        ensures { IfOk result (IsChild table.now self.now channel) }
     {
         let mut channels = Vec::new(alloc);
         channels.extend_from_slice(&self.channels)?;
         channels.push(channel)?;
         Ok(Node {
             channels,
-            left: following(alloc, &self.left, channel)?,
-            right: following(alloc, &self.right, channel)?,
+            left: following(alloc, table, &self.left, channel)?,
+            right: following(alloc, table, &self.right, channel)?,
         })
     }
 

@@ -123,6 +123,10 @@ fn problems(rt: HostRuntime) -> Result<(), Fail> {
         (".a.a|.a|", ".aaa", 0),
         (".a.a|.a|", ".aa", 1000),
         (".a.b|.a|", ".a.a|.b|", 0),
+        (".aaaa.aaaa|.aaaa|", ".aaaa.aaaa|.aaaa|", 0),
+        (".aaaa.aaaa|.aaaa|", ".aaaaaaaaaaaa", 0),
+        (".a.b|k.b.a|k|", ".a.b|k.a.b|k|", 0),
+        (".a.b|k.b.a|k|", ".a.a|k.b.b|k|", 1000),
     ];
     for (left, right, wanted) in &table {
         let found = answer_to(alloc, left, right)?;

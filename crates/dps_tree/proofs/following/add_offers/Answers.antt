@@ -1,17 +1,15 @@
-use Rattle.std.proofs.Common.{take, List, ap, ◌∙◌, subst}
-use Rattle.dps_process.specs.Process.{Process}
-use Rattle.dps_process.specs.Steps.{Config}
-use Rattle.dps_tree.proofs.Holding.{taken_more, taken_all}
-use Rattle.dps_tree.proofs.Followers.{AddsAmong, offers_more, offers_all}
+use Rattle.std.proofs.Common.{ℕ, List, take, get_or}
+use Rattle.dps_tree.specs.Following.{AddsOffers, NumberOffers, BagOffers}
+use Rattle.dps_tree.proofs.Holding.{taken_next, taken_all}
+use Rattle.dps_tree.proofs.Offering.{one_is_more}
 use Rattle.dps_tree.proofs.following.add_offers.Goals as goal
 
-pub loop-part-preserved : goal.loop-part-preserved
-loop-part-preserved c =
-    taken_more (λ (ps : List Process). AddsAmong ps c.args.channels.now.keys c.add_offer.new.channels.keys) c.deref-part-items.result.now c.loop-part.part-index c.part-item.result c.part-item.is c.loop-part-test.true
-    (offers_more (take c.loop-part.part-index c.deref-part-items.result.now) c.part-item.result _ _ _ c.loop-part.invariant c.in_ok-add_offer.ensures)
+pub loop-number-preserved : goal.loop-number-preserved
+loop-number-preserved c =
+    let bag = c.args.bag.now in
+    taken_next (λ (ns : List ℕ). AddsOffers (BagOffers c.args.table.now ns) c.args.channels.now.keys c.add_offer.new.channels.keys) bag c.loop-number.number-index 0 c.loop-number-test.true
+    (one_is_more (NumberOffers c.args.table.now) (take c.loop-number.number-index bag) (get_or bag c.loop-number.number-index 0) _ _ _ c.loop-number.invariant c.in_ok-add_offer.ensures)
 
 pub returns : goal.returns
 returns c =
-    let items = c.deref-part-items.ensures.value ∙ ap (λ (k : Config). k.parts) c.config.view_is in
-    let all = taken_all (λ (ps : List Process). AddsAmong ps c.args.channels.now.keys c.loop-part.channels.keys) c.deref-part-items.result.now c.loop-part.part-index c.loop-part-test.false c.loop-part.invariant in
-    offers_all c.args.config.now _ _ (subst (λ (ps : List Process). AddsAmong ps c.args.channels.now.keys c.loop-part.channels.keys) items all)
+    taken_all (λ (ns : List ℕ). AddsOffers (BagOffers c.args.table.now ns) c.args.channels.now.keys c.loop-number.channels.keys) c.args.bag.now c.loop-number.number-index c.loop-number-test.false c.loop-number.invariant

@@ -1,6 +1,7 @@
 use Rattle.std.proofs.Common.{take, true}
+use Rattle.dps_tree.specs.Groups.{HoldsFrame}
 use Rattle.dps_tree.specs.Matching.{AreMatchAnswer}
 use Rattle.dps_tree.proofs.matching.are_matched.Given as goal
 
-abbrev pub invariant-loop-config : goal.invariant-loop-config
-invariant-loop-config l = AreMatchAnswer l.theory (take l.config-index l.configs) l.fn.others true
+abbrev pub invariant-loop-group : goal.invariant-loop-group
+invariant-loop-group l = AreMatchAnswer l.fn.theory (HoldsFrame l.fn.table (take l.group-index l.groups)) (HoldsFrame l.fn.table l.fn.others) true

@@ -1,25 +1,28 @@
-use Rattle.std.proofs.Common.{List, take, ap, ◌∙◌, subst, false, true}
+use Rattle.std.proofs.Common.{◌∙◌, List, length, ap, subst, arith}
+use Rattle.std.specs.Prelude.{Contains}
 use Rattle.dps_terms.specs.Tree.{Tree}
-use Rattle.dps_process.specs.Steps.{Config}
-use Rattle.dps_tree.specs.Matching.{IsMatchAnswer, AreAlikeAnswer}
-use Rattle.dps_tree.proofs.Holding.{contains_item, taken_more, taken_all}
-use Rattle.dps_tree.proofs.Matchings.{unmatched_by_more, matched_by_one}
+use Rattle.dps_tree.specs.Table.{frame_of}
+use Rattle.dps_tree.specs.Groups.{HoldsFrame}
+use Rattle.dps_tree.specs.Matching.{IsMatchAnswer}
+use Rattle.dps_tree.proofs.Holding.{some_left}
+use Rattle.dps_tree.proofs.Matchings.{numbers_match, answer_same, group_answer}
 use Rattle.dps_tree.proofs.matching.is_matched.Goals as goal
+use Rattle.dps_tree.proofs.matching.is_matched.Goals.{then-is_empty-via-then-is_empty, then-is_empty-via-else-is_empty+then-has_frame}
 
-pub loop-other-preserved : goal.loop-other-preserved
-loop-other-preserved c =
-    let frame = ap (λ (k : Config). k.frame) c.other.view_is in
-    let alike = subst (λ (f : List Tree). AreAlikeAnswer c.args.theory.now c.args.frame.now f false) frame (rw c.if-branch.false at c.in_ok-are_alike.ensures) in
-    taken_more (λ (ks : List Config). IsMatchAnswer c.args.theory.now c.args.frame.now ks false) c.args.others.now c.loop-other.other-index c.other-item.result c.other-item.is c.loop-other-test.true
-    (unmatched_by_more c.args.theory.now c.args.frame.now (take c.loop-other.other-index c.args.others.now) c.other-item.result c.loop-other.invariant alike)
-
-pub returns-then-branch : goal.returns-then-branch
-returns-then-branch c =
-    let frame = ap (λ (k : Config). k.frame) c.other.view_is in
-    let alike = subst (λ (f : List Tree). AreAlikeAnswer c.args.theory.now c.args.frame.now f true) frame (rw c.if-branch.true at c.in_ok-are_alike.ensures) in
-    matched_by_one c.args.theory.now c.args.frame.now c.args.others.now c.other-item.result
-    (contains_item c.args.others.now c.loop-other.other-index c.other-item.result c.other-item.is c.loop-other-test.true) alike
+pub returns-then-is_empty : goal.returns-then-is_empty
+returns-then-is_empty c some =
+    elim c.then-is_empty.branch [
+      | then-is_empty-via-then-is_empty w ↦ absurd (let none = c.is_empty.ensures.0 w.if-is_empty.true in omega (arith, some, none))
+      | then-is_empty-via-else-is_empty+then-has_frame w ↦
+          numbers_match c.args.theory.now c.args.table.now c.args.others.now c.args.group.now.frame.items (rw w.deref.ensures.value at w.has_frame.ensures w.if-has_frame.true)
+    ]
 
 pub returns : goal.returns
 returns c =
-    taken_all (λ (ks : List Config). IsMatchAnswer c.args.theory.now c.args.frame.now ks false) c.args.others.now c.loop-other.other-index c.loop-other-test.false c.loop-other.invariant
+    let frame = c.in_ok-frame.ensures ∙ ap (frame_of c.args.table.now) c.deref-2.ensures.value in
+    let others = HoldsFrame c.args.table.now c.args.others.now in
+    let answer = c.in_ok-matched.matched in
+    let some = some_left (length c.args.group.now.bags) c.is_empty.result c.is_empty.ensures.1 c.if-is_empty.false in
+    group_answer c.args.theory.now (length c.args.group.now.bags) (frame_of c.args.table.now c.args.group.now.frame.items) others answer some
+    (answer_same c.args.theory.now (frame_of c.args.table.now c.args.group.now.frame.items) c.args.frames.now others answer c.requires.made
+    (subst (λ (f : List Tree). IsMatchAnswer c.args.theory.now f (Contains c.args.frames.now) answer) frame c.in_ok-matched.ensures))

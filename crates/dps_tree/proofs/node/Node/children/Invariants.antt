@@ -6,4 +6,4 @@ abbrev pub decreases-loop-channel : goal.decreases-loop-channel
 decreases-loop-channel l = length l.channels.keys
 
 abbrev pub invariant-loop-channel : goal.invariant-loop-channel
-invariant-loop-channel l = ChildrenAbove l.fn.self l.channels.keys l.children.items
+invariant-loop-channel l = ChildrenAbove l.fn.table l.fn.self l.channels.keys l.children.items
