@@ -1,5 +1,5 @@
-"""Writes texts into the folder that is named: those for `lexing`, `reading`, `unifying` or `comparing`. None is over
-1,048,576 bytes."""
+"""Writes texts into the folder that is named: those for `lexing`, `reading`, `unifying`, `comparing` or `ruled`. None is
+over 1,048,576 bytes."""
 import pathlib
 import sys
 
@@ -66,10 +66,44 @@ COMPARING = {
     "hidden_last": frames(*HIDDEN, message(["a0"] * 10), SHORT),
 }
 
+# symbols: pair, hash, senc, aenc, pk, sign, vk
+def mixed(names, last):
+    """A hundred messages of all symbols, half of whose keys come out, and a last one. `names` gives a private name."""
+    messages = []
+    for i in range(20):
+        secret, key, opens = names(4 * i), names(4 * i + 1), names(4 * i + 2)
+        messages += [
+            f"{secret}a{i} s0 {key}s2 ",
+            f"{secret}{names(4 * i + 3)}{opens}s4 s3 ",
+            f"{secret}s1 {opens}s5 ",
+            f"{key}{opens}s4 s0 " if i % 2 else f"{opens}s6 ",
+            f"{opens}" if i % 3 else f"{secret}s1 s1 ",
+        ]
+    return "".join(messages) + last
+
+
+def chain(names, count, last):
+    """Each key under the next, and then the last key: so each key opens the message before it."""
+    links = "".join(f"{names(i)}{names(i + 1)}s2 " for i in range(count))
+    return f"{links}{names(count)}{last}"
+
+
+def private(offset):
+    return lambda i: f"n{i + offset} "
+
+
+RULED = {
+    "mixed": f"{mixed(private(0), 'a0 s1 ')}\n{mixed(private(5000), 'a0 s1 ')}",
+    "mixed_last": f"{mixed(private(0), 'a0 s1 ')}\n{mixed(private(5000), 'n9999 ')}",
+    "chain": f"{chain(private(0), 50, 'n0 ')}\n{chain(private(5000), 50, 'n5000 ')}",
+    "chain_last": f"{chain(private(0), 50, 'n0 ')}\n{chain(private(5000), 50, 'n9999 ')}",
+    "long_chain": f"{chain(private(0), 500, 'n0 ')}\n{chain(private(5000), 500, 'n5000 ')}",
+}
+
 # names of cases: trees whose last or first leaves are two names; last leaves that are a variable and a name; variables
 # against doubled ones; the same, and a pair that fails behind them
 UNIFYING = {"last": "last", "first": "first", "variable": "variable", "doubled": "doubled", "clash": "clash"}
 
 folder = pathlib.Path(sys.argv[2])
-for name, text in {"lexing": LEXING, "reading": READING, "unifying": UNIFYING, "comparing": COMPARING}[sys.argv[1]].items():
+for name, text in {"lexing": LEXING, "reading": READING, "unifying": UNIFYING, "comparing": COMPARING, "ruled": RULED}[sys.argv[1]].items():
     (folder / f"{name}.txt").write_text(text)
