@@ -6,5 +6,14 @@ pub mod Arguments
 pub mod Bound
 pub mod Finding
 pub mod Positions
-pub mod Writing
+mod Unwriting
 pub mod Known
+pub mod Preorder
+pub mod Roots
+pub mod SameCells
+pub mod Stacked
+pub mod Instances
+pub mod OverCells
+mod Digesting
+pub mod Walking
+mod Counting

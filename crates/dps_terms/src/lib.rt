@@ -7,18 +7,27 @@
 #![tactic(auto)]
 
 mod borrowed;
+mod cells;
+mod digests;
 pub mod laws;
 mod names;
+mod nodes;
 mod printing;
+mod replacement;
 mod signature;
+mod stack;
 mod subst;
 mod term;
 #[cfg(test)]
 mod tests;
 
 pub use borrowed::{TermRef, TermView};
-pub use names::is_identifier;
+pub use digests::mixed;
+pub use names::{is_identifier, projection_text, tuple_text};
+pub use printing::LeafWriter;
+pub use replacement::Replacement;
 pub use signature::{AddRefusal, Signature};
+pub use stack::TermStack;
 use std::alloc::AllocError;
 pub use subst::Subst;
 pub use term::Term;
@@ -48,6 +57,22 @@ pub enum PublicName {
     Declared(u32),
     /// One of the attacker's own names `@0`, `@1` and so on, of which there is no end.
     At(u64),
+}
+
+/// What stands at an end of a term, by its maker.
+#[derive(Clone, Copy, Debug, PartialEq, Eq)]
+pub enum TermLeaf {
+    /// A name that the attacker has.
+    Public(PublicName),
+    /// A name that is not the attacker's from the start.
+    Private(u64),
+    Var(u64),
+    /// The handle of a frame's message, counted from 1.
+    Ax(u32),
+    /// An entry of the attacker's knowledge, counted from 1.
+    Entry(u64),
+    /// A name that stands for whatever the attacker may put in its place.
+    Rigid(u64),
 }
 
 /// Terms, substitutions and signatures may be handed to other threads and be shared with them.

@@ -1,7 +1,7 @@
 //! Tables of texts, a signature as it grows, terms by each of their makers, and terms of great depth.
 use crate::{
-    AddRefusal, NoMemory, PublicName, Signature, Subst, Sym, SymKind, Term, TermRef, TermView,
-    is_identifier,
+    AddRefusal, NoMemory, PublicName, Signature, Subst, Sym, SymKind, Term, TermLeaf, TermRef,
+    TermStack, TermView, is_identifier, projection_text, tuple_text,
 };
 use std::alloc::Global;
 use std::process::Abort;
@@ -288,35 +288,114 @@ fn bindings(rt: HostRuntime) -> Result<(), Fail> {
     Ok(())
 }
 
-fn tower(alloc: Global, height: u32) -> Result<Term, NoMemory> {
-    let sym = Sym { number: 0 };
-    let mut term = Term::var(alloc, 7)?;
+/// So many symbols with one argument, one over the other, over `?7`.
+fn chain(alloc: Global, height: u32) -> Result<Term, NoMemory> {
+    let mut stack = TermStack::empty(alloc);
+    stack.push_leaf(TermLeaf::Var(7))?;
     for _ in 0..height {
-        term = Term::app(alloc, sym, vec![in alloc; term]?)?;
+        stack.apply(Sym { number: 3 }, 1)?;
     }
-    Ok(term)
+    Ok(stack.into_term())
 }
 
-/// A substitution that binds the tower's variable to such a tower.
-fn stacking(alloc: Global, height: u32) -> Result<Subst, NoMemory> {
+/// The size of the chain with itself in the place of its variable.
+fn doubled_size(alloc: Global, term: &Term) -> Result<u64, NoMemory> {
     let mut by = Subst::empty(alloc);
-    by.bind(7, tower(alloc, height)?)?;
-    Ok(by)
+    by.bind(7, term.copy(alloc)?)?;
+    Ok(term.subst(alloc, &by)?.size())
 }
 
-fn is_tower(alloc: Global, term: &Term, height: u32) -> Result<bool, NoMemory> {
-    Ok(tower(alloc, height)? == *term)
+/// How many of the nodes are symbols.
+fn symbol_nodes(term: TermRef<'_>) -> u64 {
+    let mut count: u64 = 0;
+    for node in 0..term.node_count() {
+        if let TermView::App(_) = term.subterm(node).view() {
+            count = count.saturating_add(1);
+        }
+    }
+    count
 }
 
-/// Terms are as deep as a path of a process may be, and deeper.
+/// The numbers of nodes, of symbols and of the text's bytes, and of the nodes after a substitution.
+fn numbers(
+    alloc: Global,
+    signature: &Signature,
+    height: u32,
+) -> Result<(u64, u64, usize, u64), NoMemory> {
+    let term = chain(alloc, height)?;
+    let length = term.text(alloc, signature)?.len();
+    let doubled = doubled_size(alloc, &term)?;
+    Ok((term.size(), symbol_nodes(term.whole()), length, doubled))
+}
+
+/// Whether the chain equals its copy, has the digest of its copy and not that of a shorter one, and only `?7` in it.
+fn is_told(alloc: Global, height: u32) -> Result<bool, NoMemory> {
+    let term = chain(alloc, height)?;
+    let copied = is_copied(alloc, &term)? && has_variables(alloc, &term, &[7])?;
+    let shorter = chain(alloc, height / 2)?;
+    Ok(copied && term.whole().digest() != shorter.whole().digest())
+}
+
+/// No depth of a term takes stack, and no work on it more time than its size.
 #[test]
-fn deep_terms(rt: HostRuntime) -> Result<(), Fail> {
+fn chains(rt: HostRuntime) -> Result<(), Fail> {
     let alloc = rt.alloc();
-    let by = stacking(alloc, 2000)?;
-    let term = tower(alloc, 2000)?.subst(alloc, &by)?;
-    assert_eq!(&rt; term.size(), 4001);
-    assert!(&rt; is_tower(alloc, &term, 4000)?);
-    assert!(&rt; is_copied(alloc, &term)?);
-    assert!(&rt; has_variables(alloc, &term, &[7])?);
+    let signature = example(&rt, alloc)?;
+    let table = [
+        (1, (2, 1, 5, 3)),
+        (60_000, (60_001, 60_000, 180_002, 120_001)),
+    ];
+    for (height, wanted) in table {
+        assert_eq!(&rt; numbers(alloc, &signature, height)?, wanted, "{height}");
+        assert!(&rt; is_told(alloc, height)?, "{height}");
+    }
+    Ok(())
+}
+
+/// What stands in front of the stack, after the symbol was put over two terms and taken away again.
+fn popped(alloc: Global) -> Result<(u64, u64), NoMemory> {
+    let mut stack = TermStack::empty(alloc);
+    stack.push_leaf(TermLeaf::Ax(1))?;
+    stack.push(nested(alloc, Sym { number: 2 })?.whole())?;
+    stack.push_leaf(TermLeaf::Entry(2))?;
+    stack.apply(Sym { number: 2 }, 2)?;
+    let first = stack.pop()?;
+    let second = stack.pop()?;
+    Ok((first.size(), second.size()))
+}
+
+#[test]
+fn terms_come_off(rt: HostRuntime) -> Result<(), Fail> {
+    assert_eq!(&rt; popped(rt.alloc())?, (7, 1));
+    Ok(())
+}
+
+/// The number of `k` among the private names, and how many symbols and names there are.
+fn counts(signature: &Signature) -> Option<(u64, u32, u32)> {
+    let Some(number) = signature.name("k") else {
+        return None;
+    };
+    if signature.name_count() <= number {
+        return None;
+    }
+    let private = signature.private_number(number);
+    Some((private, signature.symbol_count(), signature.name_count()))
+}
+
+#[test]
+fn copies(rt: HostRuntime) -> Result<(), Fail> {
+    let alloc = rt.alloc();
+    let signature = example(&rt, alloc)?.copy()?;
+    assert_eq!(&rt; counts(&signature), Some((0, 4, 2)));
+    let mut by = Subst::empty(alloc);
+    by.bind(2, nested(alloc, Sym { number: 0 })?)?;
+    assert_eq!(&rt; size_of(&by.copy(alloc)?, 2), 5);
+    Ok(())
+}
+
+#[test]
+fn texts_of_tuples(rt: HostRuntime) -> Result<(), Fail> {
+    assert_eq!(rt; tuple_text(3), "(3)");
+    assert_eq!(rt; projection_text(rt.alloc(), 2, 3)?.as_str(), "proj_2_3");
     Ok(())
 }

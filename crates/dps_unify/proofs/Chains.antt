@@ -1,5 +1,5 @@
 -- Chains of bindings: the empty one, and one more binding.
-use Rattle.std.proofs.Common.{◌≡◌, ℕ, suc, ◌<◌, ◌≤◌, List, [], ◌∷◌, ◌++◌, Bool, true, false, nat_eq, length, Some, None, refl, sym, ◌∙◌, ap, arith, ◌⊎◌, inl, inr, subst, if◌then◌else◌}
+use Rattle.std.proofs.Common.{◌≡◌, ℕ, suc, ◌<◌, ◌≤◌, List, [], ◌∷◌, ◌++◌, nat_eq, length, Some, None, refl, sym, ◌∙◌, ap, arith, ◌⊎◌, inl, inr, subst}
 use Rattle.std.proofs.lemmas.Bool.{cases_Bool, eqb-true, eq-eqb}
 use Rattle.dps_terms.specs.Tree.{public, private, var, ax, entry, rigid, Tree, leaf, app, StandsIn, itself}
 use Rattle.dps_terms.specs.Replace.{substitute}
@@ -51,9 +51,6 @@ resolved_variable b h t loose y e =
     k.1 ∙ sym a ∙ ap (substitute (solved b)) (sym k.1) ∙ e
 
 -- the links behind one more binding
-at_push : (c : Bool) (m : ℕ) (o q : ℕ) → (c ≡ false → q ≡ suc o) → (if c then suc (suc m) else q) ≡ suc (if c then suc m else o)
-at_push true m o q h = refl
-at_push false m o q h = h refl
 
 length_push : (s : List (ℕ × Tree)) (p : ℕ × Tree) → length (s ++ p ∷ []) ≡ suc (length s)
 length_push [] p = refl

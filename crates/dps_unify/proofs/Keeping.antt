@@ -49,7 +49,8 @@ pub nothing_unified : (r : ℕ → Tree) (ps : List (Tree × Tree)) → ps ≡ [
 nothing_unified r ps e = subst (Unifies r) (sym e) (All-nil (λ p. substitute r p.0 ≡ substitute r p.1))
 
 -- two variables are noted as equal, as no pair is left above those that stood below theirs
-pub settled_more : (E : ℕ × ℕ → ℕ × ℕ → Bool) (old p q : Pending) (m : Begun) → SettlesFrom old p → trees_of q ≡ trees_of p → p.begun.items ≡ q.begun.items ++ m ∷ [] → length (trees_of p) ≤ m.below → q.equal.keys ≡ insert_key E p.equal.keys (m.left, m.right) → SettlesFrom old q
+pub settled_more : (E : ℕ × ℕ → ℕ × ℕ → Bool) (old p q : Pending) (m : Begun) → SettlesFrom old p → trees_of q ≡ trees_of p → p.begun.items ≡ q.begun.items ++ m ∷ []
+    → length (trees_of p) ≤ m.below → q.equal.keys ≡ insert_key E p.equal.keys (m.left, m.right) → SettlesFrom old q
 settled_more E old p q m s e d l g = record { pairs = e ∙ s.pairs; kept = λ b k. more b (s.kept b k) }
   where
     now_equal : (b : List (ℕ × Tree)) → IsKnown b p → (r : ℕ → Tree) → Fulfils r b → r m.left ≡ r m.right
@@ -70,7 +71,8 @@ settled_more E old p q m s e d l g = record { pairs = e ∙ s.pairs; kept = λ b
     }
 
 -- of a pair that was taken out: whatever makes it equal and unifies the rest above a height unifies what stood above it
-above : (r : ℕ → Tree) (h : ℕ) (now rest after : List (Tree × Tree)) (t u : Tree) (more : List (Tree × Tree)) → now ≡ rest ++ (t, u) ∷ [] → after ≡ rest ++ more → (Unifies r more → substitute r t ≡ substitute r u) → Unifies r (drop h after) → Unifies r (drop h now)
+above : (r : ℕ → Tree) (h : ℕ) (now rest after : List (Tree × Tree)) (t u : Tree) (more : List (Tree × Tree)) → now ≡ rest ++ (t, u) ∷ [] → after ≡ rest ++ more
+    → (Unifies r more → substitute r t ≡ substitute r u) → Unifies r (drop h after) → Unifies r (drop h now)
 above r h now rest after t u more is is_after equal k =
     elim (cases_lt (length rest) h) [
       | inl l ↦ nothing_unified r (drop h now) (drop_all h now (omega (arith, l, ap length is, length-push rest)))
@@ -86,7 +88,8 @@ above r h now rest after t u more is is_after equal k =
     length-push (x ∷ xs) = ap suc (length-push xs)
 
 -- other pairs in the place of one that was taken out
-module _ (b : List (ℕ × Tree)) (pending : Pending) (now rest after : List (Tree × Tree)) (t u : Tree) (more : List (Tree × Tree)) (is : now ≡ rest ++ (t, u) ∷ []) (is_after : after ≡ rest ++ more) (h : AreKept b now pending) where
+module _ (b : List (ℕ × Tree)) (pending : Pending) (now rest after : List (Tree × Tree)) (t u : Tree) (more : List (Tree × Tree)) (is : now ≡ rest ++ (t, u) ∷ [])
+    (is_after : after ≡ rest ++ more) (h : AreKept b now pending) where
   pub kept_after : (q : List (ℕ × Tree)) → ((r : ℕ → Tree) → Fulfils r q → Fulfils r b × (Unifies r more → substitute r t ≡ substitute r u)) → AreKept q after pending
   kept_after q equal = record {
     begun = λ m c r f k. let e = equal r f in h.begun m c r e.0 (above r m.below now rest after t u more is is_after e.1 k);
@@ -108,7 +111,8 @@ module _ (b : List (ℕ × Tree)) (pending : Pending) (t u : Tree) (h : IsKnownW
         (λ r f. (f, λ k. sym (left.same r f) ∙ ((unifies_one r (a, c)).0 k ∙ right.same r f)))
 
     -- the pairs of its arguments are in its place
-    module _ (alike : HaveSameRoot a c) (variables : Option (ℕ × ℕ)) (are : AreVariables t u variables) (begun new : Pending) (is : IsBegun pending variables begun) (same_begun : new.begun.items ≡ begun.begun.items) (same_equal : new.equal.keys ≡ begun.equal.keys) (pairs : trees_of new ≡ trees_of pending ++ zip (arguments a) (arguments c)) where
+    module _ (alike : HaveSameRoot a c) (variables : Option (ℕ × ℕ)) (are : AreVariables t u variables) (begun new : Pending) (is : IsBegun pending variables begun)
+        (same_begun : new.begun.items ≡ begun.begun.items) (same_equal : new.equal.keys ≡ begun.equal.keys) (pairs : trees_of new ≡ trees_of pending ++ zip (arguments a) (arguments c)) where
       made_equal : (r : ℕ → Tree) → Fulfils r b → Unifies r (zip (arguments a) (arguments c)) → substitute r t ≡ substitute r u
       made_equal r f k = sym (left.same r f) ∙ ((unified_arguments r a c alike).1 k ∙ right.same r f)
 
@@ -117,7 +121,8 @@ module _ (b : List (ℕ × Tree)) (pending : Pending) (t u : Tree) (h : IsKnownW
           kept_after b pending (trees_of pending ++ (t, u) ∷ []) (trees_of pending) (trees_of new) t u (zip (arguments a) (arguments c)) refl pairs h b
           (λ r f. (f, made_equal r f))
 
-      one_begun : (m : Begun) → m.below ≡ length (trees_of pending) → t ≡ leaf (var m.left) → u ≡ leaf (var m.right) → (r : ℕ → Tree) → Fulfils r b → Unifies r (drop m.below (trees_of new)) → r m.left ≡ r m.right
+      one_begun : (m : Begun) → m.below ≡ length (trees_of pending) → t ≡ leaf (var m.left) → u ≡ leaf (var m.right) → (r : ℕ → Tree) → Fulfils r b → Unifies r (drop m.below (trees_of new))
+          → r m.left ≡ r m.right
       one_begun m e l g r f k =
           let there : drop m.below (trees_of new) ≡ zip (arguments a) (arguments c) =
           ap (drop m.below) pairs ∙ drop_at (trees_of pending) (zip (arguments a) (arguments c)) m.below (sym e) in
@@ -159,7 +164,8 @@ pub record Advances (b : List (ℕ × Tree)) (before : List (Tree × Tree)) (pen
 pub all_unified : (b : List (ℕ × Tree)) (start now : List (Tree × Tree)) → Remains b start now → now ≡ [] → AreUnified b start
 all_unified b start now h e r f = (h.same r f).1 (nothing_unified r now e)
 
-module _ (b : List (ℕ × Tree)) (before now : List (Tree × Tree)) (out new : Pending) (t u : Tree) (h : Remains b before now) (is : now ≡ trees_of out ++ (t, u) ∷ []) (kept : IsKnownWith b t u out) where
+module _ (b : List (ℕ × Tree)) (before now : List (Tree × Tree)) (out new : Pending) (t u : Tree) (h : Remains b before now) (is : now ≡ trees_of out ++ (t, u) ∷ [])
+    (kept : IsKnownWith b t u out) where
   remains_equal : AreKnownEqual out t u → Remains b before (trees_of out)
   remains_equal k = record {
     same = λ r f.
@@ -191,7 +197,8 @@ module _ (b : List (ℕ × Tree)) (before now : List (Tree × Tree)) (out new : 
       subst (λ ps. IsDifference b before ps a c) (sym d.same) (difference_found b before now (trees_of out) t u a c h is d.left d.right d.apart)
 
 -- a binding by which a pair that was taken out becomes equal
-pub kept_bound : (b q : List (ℕ × Tree)) (pending : Pending) (a c : Tree) → IsKnownWith b a c pending → ((r : ℕ → Tree) → Fulfils r q → Fulfils r b × (substitute r a ≡ substitute r c)) → IsKnown q pending
+pub kept_bound : (b q : List (ℕ × Tree)) (pending : Pending) (a c : Tree) → IsKnownWith b a c pending → ((r : ℕ → Tree) → Fulfils r q → Fulfils r b × (substitute r a ≡ substitute r c))
+    → IsKnown q pending
 kept_bound b q pending a c h equal =
     kept_after b pending (trees_of pending ++ (a, c) ∷ []) (trees_of pending) (trees_of pending) a c [] refl (with_none (trees_of pending)) h q
     (λ r f. let e = equal r f in (e.0, λ _. e.1))

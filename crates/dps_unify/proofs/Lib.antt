@@ -8,4 +8,7 @@ pub mod Keeping
 pub mod Unifying
 pub mod Solving
 pub mod Matched
-pub mod Renamed
+pub mod Deciding
+pub mod Unique
+mod Following
+mod Compared

@@ -74,7 +74,8 @@ length-zip [] ys = omega arith
 length-zip (x ∷ xs) [] = omega arith
 length-zip (x ∷ xs) (y ∷ ys) = omega (arith, length-zip xs ys)
 
-zip_variable : (n : ℕ) (xs ys : List Tree) → Any (StandsInPair n) (zip xs ys) → ((i : ℕ) × (t : Tree) × (slice_get xs i ≡ Some t) × StandsIn (var n) t) ⊎ ((i : ℕ) × (t : Tree) × (slice_get ys i ≡ Some t) × StandsIn (var n) t)
+zip_variable : (n : ℕ) (xs ys : List Tree) → Any (StandsInPair n) (zip xs ys)
+    → ((i : ℕ) × (t : Tree) × (slice_get xs i ≡ Some t) × StandsIn (var n) t) ⊎ ((i : ℕ) × (t : Tree) × (slice_get ys i ≡ Some t) × StandsIn (var n) t)
 zip_variable n [] ys h = absurd (any_none (StandsInPair n) h)
 zip_variable n (x ∷ xs) [] h = absurd (any_none (StandsInPair n) h)
 zip_variable n (x ∷ xs) (y ∷ ys) h =
@@ -115,7 +116,8 @@ pub weight_arguments : (z : ℕ → Tree) (t : Tree) (ys : List Tree) → weight
 weight_arguments z (leaf x) ys = omega (arith, has_nodes (substitute z (leaf x)))
 weight_arguments z (app f ts) ys = omega (arith, weight_all z ts ys)
 
-module _ (b : List (ℕ × Tree)) (before now rest : List (Tree × Tree)) (t u a c : Tree) (h : Remains b before now) (is : now ≡ rest ++ (t, u) ∷ []) (left : Resolves b t a) (right : Resolves b u c) where
+module _ (b : List (ℕ × Tree)) (before now rest : List (Tree × Tree)) (t u a c : Tree) (h : Remains b before now) (is : now ≡ rest ++ (t, u) ∷ []) (left : Resolves b t a)
+    (right : Resolves b u c) where
   -- the pair and those before it
   apart_now : (r : ℕ → Tree) → Fulfils r b → Unifies r now ↔ (Unifies r rest × (substitute r a ≡ substitute r c))
   apart_now r f =
@@ -180,7 +182,8 @@ module _ (b : List (ℕ × Tree)) (before now rest : List (Tree × Tree)) (t u a
 pub pairs_push : (ds : List Parts) (d : Parts) → pairs_of (ds ++ d ∷ []) ≡ pairs_of ds ++ (seen d.left, seen d.right) ∷ []
 pairs_push ds d = map-append (λ (e : Parts). (seen e.left, seen e.right)) ds (d ∷ [])
 
-pub pushed_next : (start now : List Parts) (d : Parts) (after : List Parts) (xs ys : List Tree) (i : ℕ) → pairs_of now ≡ pairs_of start ++ take i (zip xs ys) → after ≡ now ++ d ∷ [] → slice_get xs i ≡ Some (seen d.left) → slice_get ys i ≡ Some (seen d.right) → pairs_of after ≡ pairs_of start ++ take (i + 1) (zip xs ys)
+pub pushed_next : (start now : List Parts) (d : Parts) (after : List Parts) (xs ys : List Tree) (i : ℕ) → pairs_of now ≡ pairs_of start ++ take i (zip xs ys) → after ≡ now ++ d ∷ []
+    → slice_get xs i ≡ Some (seen d.left) → slice_get ys i ≡ Some (seen d.right) → pairs_of after ≡ pairs_of start ++ take (i + 1) (zip xs ys)
 pushed_next start now d after xs ys i h e l r =
     ap pairs_of e ∙ pairs_push now d ∙ ap (λ ps. ps ++ (seen d.left, seen d.right) ∷ []) h
     ∙ append_assoc (pairs_of start) (take i (zip xs ys)) ((seen d.left, seen d.right) ∷ [])

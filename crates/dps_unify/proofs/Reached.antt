@@ -1,71 +1,26 @@
--- Whether a variable stands in what a term becomes, argument by argument.
-use Rattle.std.proofs.Common.{◌≡◌, ℕ, zero, suc, ◌<◌, ◌≤◌, List, length, Some, refl, sym, ◌∙◌, ap, arith, inl, inr, subst, nat_eq, true}
-use Rattle.std.specs.Prelude.{slice_get, ◌↔◌, IsTrue}
-use Rattle.std.proofs.lemmas.Bool.{cases_Bool, eqb-true, eq-eqb}
+-- Whether a variable stands in what a term becomes, node by node.
+use Rattle.std.proofs.Common.{◌≡◌, ℕ, zero, suc, ◌+◌, ◌-◌, ◌<◌, ◌≤◌, List, [], ◌∷◌, ◌++◌, length, take, drop, Option, Some, None, refl, sym, ◌∙◌, ap, arith, inl, inr, subst, nat_eq, true}
+use Rattle.std.specs.Prelude.{slice_get, reverse, All}
+use Rattle.std.proofs.lemmas.Bool.{cases_Bool, eqb-true}
 use Rattle.std.proofs.lemmas.List.Folds.{Any-from_list_any}
-use Rattle.std.proofs.lemmas.List.Elements.{All-push}
-use Rattle.std.specs.List.{All, list_any}
+use Rattle.std.proofs.lemmas.List.Elements.{All-nil, All-push}
+use Rattle.std.proofs.lemmas.List.{reverse-append, take-append-drop}
+use Rattle.std.specs.List.{list_any}
 use Rattle.indexmap.specs.IndexSet.{insert_key}
-use Rattle.std.proofs.lemmas.Option.{none-some, slice_get_within}
-use Rattle.dps_terms.specs.Tree.{Leaf, var, Tree, Trees, leaf, app, none, more, list_of, node_count, IsSubterm, IsAmong, StandsIn, itself, below, in_first, in_rest}
+use Rattle.std.proofs.lemmas.Option.{none-some}
+use Rattle.dps_terms.specs.Tree.{var, Tree, leaf, node_count, IsSubterm, StandsIn, itself}
 use Rattle.dps_terms.specs.Replace.{substitute, variables_to}
+use Rattle.dps_terms.specs.Bindings.{bound}
 use Rattle.dps_terms.specs.Views.{view_of, arguments}
+use Rattle.dps_terms.specs.Seen.{seen}
+use Rattle.dps_terms.specs.Walk.{subterms_from}
 use Rattle.dps_terms.specs.declared.TermView.TheVariants.{Var}
-use Rattle.dps_terms.proofs.Replacing.{keeps_subterms, keeps_among}
-use Rattle.dps_terms.proofs.Subterms.{nested, among_le}
-use Rattle.dps_unify.specs.Chain.{solved, IsResolved, IsChain, Resolves}
-use Rattle.dps_unify.proofs.Trees.{variable_of_instance, in_leaf, var_from_view}
-
--- an argument
-argument_among : (ts : Trees) (i : ℕ) (u : Tree) → slice_get (list_of ts) i ≡ Some u → IsAmong u ts
-argument_among none i u e = absurd (none-some u e)
-argument_among (more t ts) zero u e = let d : t ≡ u = cc in in_first (subst (λ v. IsSubterm u v) (sym d) itself)
-argument_among (more t ts) (suc i) u e = in_rest (argument_among ts i u e)
-
-pub argument_instance_lt : (z : ℕ → Tree) (t : Tree) (i : ℕ) (u : Tree) → slice_get (arguments t) i ≡ Some u → node_count (substitute z u) < node_count (substitute z t)
-argument_instance_lt z (leaf x) i u e = absurd (none-some u e)
-argument_instance_lt z (app f ts) i u e = omega (arith, among_le (keeps_among (variables_to z) (argument_among ts i u e)))
-
-pub stands_in_instance : (z : ℕ → Tree) (x : Leaf) (t : Tree) (i : ℕ) (u : Tree) → slice_get (arguments t) i ≡ Some u → StandsIn x (substitute z u) → StandsIn x (substitute z t)
-stands_in_instance z x (leaf y) i u e k = absurd (none-some u e)
-stands_in_instance z x (app f ts) i u e k = nested k (below (keeps_among (variables_to z) (argument_among ts i u e)))
-
--- the variable stands in none of the first i arguments under the substitution
-abbrev pub AvoidsSome : ℕ → (ℕ → Tree) → Tree → ℕ → Type 0
-AvoidsSome x z t i = (j : ℕ) → j < i → (u : Tree) → slice_get (arguments t) j ≡ Some u → ¬ StandsIn (var x) (substitute z u)
-
--- a variable below the root stands in an argument
-among_argument : (v : Tree) (ts : Trees) → IsAmong v ts → (i : ℕ) × (u : Tree) × (slice_get (list_of ts) i ≡ Some u) × IsSubterm v u
-among_argument v none k = elim k [ ]
-among_argument v (more t ts) (in_first k) = (0, t, refl, k)
-among_argument v (more t ts) (in_rest k) = let h = among_argument v ts k in (suc h.0, h.1, h.2, h.3)
-
-pub below_root : (m : ℕ) (t : Tree) → ((n : ℕ) → view_of t ≡ Var n → ⊥) → StandsIn (var m) t → (i : ℕ) × (u : Tree) × (slice_get (arguments t) i ≡ Some u) × StandsIn (var m) u
-below_root m (leaf x) avoided k = let e = in_leaf x (leaf (var m)) k in absurd (avoided m (ap view_of (sym e)))
-below_root m (app f ts) avoided (below k) = among_argument (leaf (var m)) ts k
-
-pub avoids_all : (x : ℕ) (z : ℕ → Tree) (t : Tree) (i : ℕ) → ((n : ℕ) → view_of t ≡ Var n → ⊥) → AvoidsSome x z t i → length (arguments t) ≤ i → ¬ StandsIn (var x) (substitute z t)
-avoids_all x z t i avoided h l k =
-    let m = variable_of_instance z x t k in
-    let a = below_root m.0 t avoided m.1 in
-    h a.0 (omega (arith, slice_get_within (arguments t) a.0 a.1 a.2)) a.1 a.2 (nested m.2 (keeps_subterms (variables_to z) a.3))
-
--- a variable that is not bound becomes itself
-pub variable_reached : (b : List (ℕ × Tree)) → IsChain b → (t : Tree) (n x : ℕ) → Var n ≡ view_of t → IsResolved b t → IsTrue (nat_eq n x) ↔ StandsIn (var x) (substitute (solved b) t)
-variable_reached b h t n x e loose =
-    let d : t ≡ leaf (var n) = var_from_view t n (sym e) in
-    let a : substitute (solved b) t ≡ leaf (var n) = ap (substitute (solved b)) d ∙ h.stays n (loose n d) in (
-      λ k. subst (λ u. StandsIn (var x) u) (sym a) (subst (λ m. StandsIn (var x) (leaf (var m))) (sym (eqb-true n x k)) itself),
-      λ k. let m = in_leaf (var n) (leaf (var x)) (subst (λ u. StandsIn (var x) u) a k) in eq-eqb n x (cc),
-    )
-
--- what a variable that was passed becomes
-pub avoids_passed : (b : List (ℕ × Tree)) (x n : ℕ) (t : Tree) → Var n ≡ view_of t → ¬ StandsIn (var x) (solved b n) → ¬ StandsIn (var x) (substitute (solved b) t)
-avoids_passed b x n t e avoided k = avoided (subst (λ u. StandsIn (var x) (substitute (solved b) u)) (var_from_view t n (sym e)) k)
-
-pub avoids_bound : (b : List (ℕ × Tree)) (x n : ℕ) (t u : Tree) → IsChain b → Var n ≡ view_of t → Resolves b t u → ¬ StandsIn (var x) (substitute (solved b) u) → ¬ StandsIn (var x) (solved b n)
-avoids_bound b x n t u h e r avoided k =
-    avoided (subst (λ v. StandsIn (var x) v) (sym (ap (substitute (solved b)) (var_from_view t n (sym e))) ∙ sym (r.same (solved b) h.fulfilled)) k)
+use Rattle.dps_terms.proofs.Replacing.{keeps_subterms}
+use Rattle.dps_terms.proofs.Subterms.{nested}
+use Rattle.dps_unify.specs.Chain.{solved, IsChain}
+use Rattle.dps_unify.specs.Visits.{looked_at, IsPassed, Avoids, AllAvoid, IsBoundTo, Concludes, AreInside, IsVisiting}
+use Rattle.dps_unify.specs.declared.reaching.Visit.{Visit}
+use Rattle.dps_unify.proofs.Trees.{variable_of_instance, in_leaf, var_from_view, below_root}
 
 -- the variables that were passed
 pub all_listed : (P : ℕ → Type 0) (ks : List ℕ) (n : ℕ) → All P ks → list_any (nat_eq n) ks ≡ true → P n
@@ -79,3 +34,141 @@ all_inserted P ks n h k =
       | inl e ↦ rw e h
       | inr e ↦ rw e (All-push P ks n h k)
     ]
+
+passed_on : (P : ℕ → Type 0) (old : List ℕ) (variable : Option ℕ) (new : List ℕ) → IsPassed old variable new → All P old → ((n : ℕ) → variable ≡ Some n → P n) → All P new
+passed_on P old None new e h k = subst (All P) (sym e) h
+passed_on P old (Some n) new e h k = subst (All P) (sym e) (all_inserted P old n h (k n refl))
+
+pub last_first : (old new : List Visit) (v : Visit) → new ≡ old ++ v ∷ [] → reverse new ≡ v ∷ reverse old
+last_first old new v e = ap reverse e ∙ reverse-append old (v ∷ [])
+
+-- one node before
+pub record IsNode (v w : Visit) (s : Tree) : Type 0 where
+  pub some : 0 < v.left
+  pub term : w.term ≡ v.term
+  pub left : w.left ≡ v.left - 1
+  pub variable : w.variable ≡ v.variable
+  pub first : subterms_from (seen v.term) (v.left - 1) ≡ s ∷ drop (length (arguments s)) (subterms_from (seen v.term) (v.left - 1 + 1))
+  pub below : arguments s ≡ take (length (arguments s)) (subterms_from (seen v.term) (v.left - 1 + 1))
+  pub inside : IsSubterm s (seen v.term)
+
+module _ (b : List (ℕ × Tree)) (chain : IsChain b) (x : ℕ) (free : bound b x ≡ None) (whole : Tree) where
+  -- the whole, of which nothing is looked at
+  pub begun : (v : Visit) (vs : List Visit) (passed : List ℕ) → vs ≡ v ∷ [] → seen v.term ≡ whole → v.left ≡ node_count whole → subterms_from (seen v.term) v.left ≡ [] → v.variable ≡ None
+      → passed ≡ [] → IsVisiting b x whole vs passed
+  begun v vs passed e t l none o p =
+      subst (λ ws. IsVisiting b x whole ws passed) (sym e) record {
+        concludes = (subst (AllAvoid b x) (sym none) tt, λ a. subst (Avoids b x) t a);
+        inside = (
+          omega (arith, l, ap node_count t),
+          subst (λ w. IsBoundTo b x w (seen v.term)) (sym o) tt,
+          λ k. subst (λ u. StandsIn (var x) (substitute (solved b) u)) t k,
+          tt,
+        );
+        passed = subst (All (λ n. ¬ StandsIn (var x) (solved b n))) (sym p) (All-nil (λ n. ¬ StandsIn (var x) (solved b n)));
+      }
+
+  -- the trees behind a node avoid x, and so do the node's arguments
+  split_avoids : (ts us : List Tree) → AllAvoid b x (ts ++ us) → AllAvoid b x ts × AllAvoid b x us
+  split_avoids [] us h = (tt, h)
+  split_avoids (t ∷ ts) us h = let r = split_avoids ts us h.1 in ((h.0, r.0), r.1)
+
+  avoids_at : (ts : List Tree) (i : ℕ) (u : Tree) → AllAvoid b x ts → slice_get ts i ≡ Some u → Avoids b x u
+  avoids_at [] i u h e = absurd (none-some u e)
+  avoids_at (t ∷ ts) zero u h e = let d : t ≡ u = cc in subst (Avoids b x) d h.0
+  avoids_at (t ∷ ts) (suc i) u h e = avoids_at ts i u h.1 e
+
+  -- no variable
+  pub other_avoids : (s : Tree) → ((n : ℕ) → view_of s ≡ Var n → ⊥) → AllAvoid b x (arguments s) → Avoids b x s
+  other_avoids s other h k =
+      let m = variable_of_instance (solved b) x s k in
+      let a = below_root m.0 s other m.1 in
+      avoids_at (arguments s) a.0 a.1 h a.2 (nested m.2 (keeps_subterms (variables_to (solved b)) a.3))
+
+  -- a variable that is not bound, and is another one
+  pub free_avoids : (s : Tree) (n : ℕ) → view_of s ≡ Var n → bound b n ≡ None → (n ≡ x → ⊥) → Avoids b x s
+  free_avoids s n e loose other k =
+      let d : substitute (solved b) s ≡ leaf (var n) = ap (substitute (solved b)) (var_from_view s n e) ∙ chain.stays n loose in
+      let i = in_leaf (var n) (leaf (var x)) (subst (λ u. StandsIn (var x) u) d k) in
+      other (let m : n ≡ x = cc in m)
+
+  -- a variable that was passed
+  pub passed_avoids : (s : Tree) (n : ℕ) → view_of s ≡ Var n → ¬ StandsIn (var x) (solved b n) → Avoids b x s
+  passed_avoids s n e h k = h (subst (λ u. StandsIn (var x) (substitute (solved b) u)) (var_from_view s n e) k)
+
+  -- a bound variable becomes what its term does
+  pub follows : (n : ℕ) (u : Tree) → bound b n ≡ Some u → solved b n ≡ substitute (solved b) u
+  follows n u e = chain.fulfilled n u e
+
+  -- a term is looked through
+  pub looked_through : (v : Visit) (vs : List Visit) (old new : List ℕ) → v.left ≡ 0 → IsPassed old v.variable new → IsVisiting b x whole (v ∷ vs) old → IsVisiting b x whole vs new
+  looked_through v vs old new z p h =
+      let a : Avoids b x (seen v.term) = (subst (λ n. AllAvoid b x (subterms_from (seen v.term) n)) z h.concludes.0).0 in
+      record {
+        concludes = h.concludes.1 a;
+        inside = h.inside.3;
+        passed = passed_on (λ n. ¬ StandsIn (var x) (solved b n)) old v.variable new p h.passed (λ n e. own n e h.inside.1 a);
+      }
+    where
+      own : (n : ℕ) → v.variable ≡ Some n → IsBoundTo b x v.variable (seen v.term) → Avoids b x (seen v.term) → ¬ StandsIn (var x) (solved b n)
+      own n e k a o = a (subst (λ u. StandsIn (var x) u) (subst (λ w. IsBoundTo b x w (seen v.term)) e k) o)
+
+  module _ (v w : Visit) (vs : List Visit) (old : List ℕ) (s : Tree) (k : IsNode v w s) (h : IsVisiting b x whole (v ∷ vs) old) where
+    parts : AllAvoid b x (arguments s) × AllAvoid b x (drop (length (arguments s)) (looked_at v))
+    parts =
+        let n = length (arguments s) in
+        let one : v.left - 1 + 1 ≡ v.left = omega (arith, k.some) in
+        let below_is : arguments s ≡ take n (looked_at v) = k.below ∙ ap (λ m. take n (subterms_from (seen v.term) m)) one in
+        split_avoids (arguments s) (drop n (looked_at v))
+        (subst (AllAvoid b x) (sym (take-append-drop n (looked_at v)) ∙ ap (λ us. us ++ drop n (looked_at v)) (sym below_is)) h.concludes.0)
+
+    pub arguments_avoid : AllAvoid b x (arguments s)
+    arguments_avoid = parts.0
+
+    looked : looked_at w ≡ s ∷ drop (length (arguments s)) (looked_at v)
+    looked =
+        let one : v.left - 1 + 1 ≡ v.left = omega (arith, k.some) in
+        (λ i. subterms_from (seen (k.term i)) (k.left i)) ∙ (k.first ∙ ap (λ m. s ∷ drop (length (arguments s)) (subterms_from (seen v.term) m)) one)
+
+    inside_next : AreInside b x whole (w ∷ vs)
+    inside_next = (
+      subst (λ u. w.left ≤ node_count (seen u)) (sym k.term) (omega (arith, k.left, h.inside.0)),
+      subst (λ o. IsBoundTo b x o (seen w.term)) (sym k.variable) (subst (λ u. IsBoundTo b x v.variable (seen u)) (sym k.term) h.inside.1),
+      subst (λ u. StandsIn (var x) (substitute (solved b) (seen u)) → StandsIn (var x) (substitute (solved b) whole)) (sym k.term) h.inside.2,
+      h.inside.3,
+    )
+
+    concludes_next : Avoids b x s → Concludes b x whole (w ∷ vs)
+    concludes_next a = (
+      subst (AllAvoid b x) (sym looked) (a, parts.1),
+      subst (λ u. Avoids b x (seen u) → Concludes b x whole vs) (sym k.term) h.concludes.1,
+    )
+
+    -- the node avoids x
+    pub goes_on : Avoids b x s → IsVisiting b x whole (w ∷ vs) old
+    goes_on a = record { concludes = concludes_next a; inside = inside_next; passed = h.passed }
+
+    -- the node is the variable
+    pub found : (n : ℕ) → view_of s ≡ Var n → n ≡ x → StandsIn (var x) (substitute (solved b) whole)
+    found n e same =
+        let d : substitute (solved b) s ≡ leaf (var x) = ap (substitute (solved b)) (var_from_view s n e ∙ ap (λ m. leaf (var m)) same) ∙ chain.stays x free in
+        h.inside.2 (nested (subst (λ u. StandsIn (var x) u) (sym d) itself) (keeps_subterms (variables_to (solved b)) k.inside))
+
+    -- the node is a variable that is followed
+    pub enters : (u : Visit) (n : ℕ) (t : Tree) → view_of s ≡ Var n → bound b n ≡ Some t → seen u.term ≡ t → u.left ≡ node_count t → subterms_from (seen u.term) u.left ≡ []
+        → u.variable ≡ Some n → IsVisiting b x whole (u ∷ w ∷ vs) old
+    enters u n t e bound_is term left none own =
+        let becomes : substitute (solved b) s ≡ substitute (solved b) t = ap (substitute (solved b)) (var_from_view s n e) ∙ follows n t bound_is in
+        record {
+          concludes = (
+            subst (AllAvoid b x) (sym none) tt,
+            λ a. concludes_next (λ o. subst (Avoids b x) term a (subst (λ y. StandsIn (var x) y) becomes o)),
+          );
+          inside = (
+            omega (arith, left, ap node_count term),
+            subst (λ o. IsBoundTo b x o (seen u.term)) (sym own) (follows n t bound_is ∙ ap (substitute (solved b)) (sym term)),
+            λ o. h.inside.2 (nested (subst (λ y. StandsIn (var x) y) (ap (substitute (solved b)) term ∙ sym becomes) o) (keeps_subterms (variables_to (solved b)) k.inside)),
+            inside_next,
+          );
+          passed = h.passed;
+        }

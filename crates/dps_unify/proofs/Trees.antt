@@ -154,3 +154,13 @@ stands_among x (more t ts) (suc i) u e k = in_rest (stands_among x ts i u e k)
 pub stands_in_argument : (x : Leaf) (t : Tree) (i : ℕ) (u : Tree) → slice_get (arguments t) i ≡ Some u → StandsIn x u → StandsIn x t
 stands_in_argument x (leaf y) i u e k = absurd (none-some u e)
 stands_in_argument x (app f ts) i u e k = below (stands_among x ts i u e k)
+
+-- a variable below the root stands in an argument
+among_argument : (v : Tree) (ts : Trees) → IsAmong v ts → (i : ℕ) × (u : Tree) × (slice_get (list_of ts) i ≡ Some u) × IsSubterm v u
+among_argument v none k = elim k [ ]
+among_argument v (more t ts) (in_first k) = (0, t, refl, k)
+among_argument v (more t ts) (in_rest k) = let h = among_argument v ts k in (suc h.0, h.1, h.2, h.3)
+
+pub below_root : (m : ℕ) (t : Tree) → ((n : ℕ) → view_of t ≡ Var n → ⊥) → StandsIn (var m) t → (i : ℕ) × (u : Tree) × (slice_get (arguments t) i ≡ Some u) × StandsIn (var m) u
+below_root m (leaf x) avoided k = let e = in_leaf x (leaf (var m)) k in absurd (avoided m (ap view_of (sym e)))
+below_root m (app f ts) avoided (below k) = among_argument (leaf (var m)) ts k

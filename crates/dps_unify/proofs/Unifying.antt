@@ -38,7 +38,8 @@ progress_start levels pairs b e = record {
   within = λ n h. elim h [ inl k ↦ absurd (not_held b n e k) | inr k ↦ k ];
 }
 
-pub progress_end : (levels : List (ℕ × ℕ)) (pairs : List (Tree × Tree)) (b : List (ℕ × Tree)) (pending : List (Tree × Tree)) → Progress levels pairs b pending → AreUnified b pending → IsUnified levels pairs b
+pub progress_end : (levels : List (ℕ × ℕ)) (pairs : List (Tree × Tree)) (b : List (ℕ × Tree)) (pending : List (Tree × Tree)) → Progress levels pairs b pending → AreUnified b pending
+    → IsUnified levels pairs b
 progress_end levels pairs b pending h u = record {
   chain = h.chain;
   least = h.least;
@@ -118,7 +119,8 @@ module _ (b q : List (ℕ × Tree)) (fewer : (n : ℕ) → bound q n ≡ None �
         ]
 
 -- a step: two parts that differ, and what they force
-module _ (levels : List (ℕ × ℕ)) (pairs : List (Tree × Tree)) (b : List (ℕ × Tree)) (pending rest : List (Tree × Tree)) (a c : Tree) (h : Progress levels pairs b pending) (d : IsDifference b pending rest a c) where
+module _ (levels : List (ℕ × ℕ)) (pairs : List (Tree × Tree)) (b : List (ℕ × Tree)) (pending rest : List (Tree × Tree)) (a c : Tree) (h : Progress levels pairs b pending)
+    (d : IsDifference b pending rest a c) where
   -- what unifies the pairs makes the parts equal
   equal_parts : (r : ℕ → Tree) → Unifies r pairs → Fulfils r b × Unifies r rest × (substitute r a ≡ substitute r c)
   equal_parts r u =
@@ -217,7 +219,9 @@ pub record Searches (levels : List (ℕ × ℕ)) (pairs : List (Tree × Tree)) (
   pub progress : Progress levels pairs b (trees_of pending)
   pub known : IsKnown b pending
 
-pub searches_on : (levels : List (ℕ × ℕ)) (pairs : List (Tree × Tree)) (b : List (ℕ × Tree)) (pending rest : Pending) (a c : Tree) (h : Searches levels pairs b pending) (d : IsDifference b (trees_of pending) (trees_of rest) a c) (kept : IsKnownWith b a c rest) (x : ℕ) (v : Tree) (forced : IsForced levels a c x v) (absent : ¬ StandsIn (var x) (substitute (solved b) v)) (q : List (ℕ × Tree)) (is : q ≡ b ++ (x, v) ∷ []) → Searches levels pairs q rest
+pub searches_on : (levels : List (ℕ × ℕ)) (pairs : List (Tree × Tree)) (b : List (ℕ × Tree)) (pending rest : Pending) (a c : Tree) (h : Searches levels pairs b pending)
+    (d : IsDifference b (trees_of pending) (trees_of rest) a c) (kept : IsKnownWith b a c rest) (x : ℕ) (v : Tree) (forced : IsForced levels a c x v)
+    (absent : ¬ StandsIn (var x) (substitute (solved b) v)) (q : List (ℕ × Tree)) (is : q ≡ b ++ (x, v) ∷ []) → Searches levels pairs q rest
 searches_on levels pairs b pending rest a c h d kept x v forced absent q is = record {
   progress = progress_step levels pairs b (trees_of pending) (trees_of rest) a c h.progress d x v forced absent q is;
   known = kept_bound b q rest a c kept (was_fulfilled levels pairs b (trees_of pending) (trees_of rest) a c h.progress d x v forced absent q is);
@@ -225,10 +229,6 @@ searches_on levels pairs b pending rest a c h d kept x v forced absent q is = re
 
 -- the unifier, from bindings
 module _ (levels : List (ℕ × ℕ)) (pairs : List (Tree × Tree)) (b : List (ℕ × Tree)) (h : IsUnified levels pairs b) where
-  in_end : ℕ → Option Tree → Tree
-  in_end n None = leaf (var n)
-  in_end n (Some t) = t
-
   bound_end : (n : ℕ) → bound (all_solved b) n ≡ option_map (substitute (solved b)) (bound b n)
   bound_end n = bound-map (substitute (solved b)) b n
 

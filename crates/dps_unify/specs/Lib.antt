@@ -7,3 +7,8 @@ pub mod Unified
 pub mod Matching
 pub mod Renaming
 pub mod Kept
+pub mod Decided
+pub mod Places
+pub mod OneUnifier
+pub mod Visits
+pub mod Comparing

@@ -29,6 +29,11 @@ pub record Matched (free : List ℕ) (s : List (ℕ × Tree)) (p t : Tree) (q : 
   pub matches : (r : ℕ → Tree) → Keeps free r → Agrees r q → substitute r p ≡ t
   pub forced : (r : ℕ → Tree) → Keeps free r → Agrees r s → substitute r p ≡ t → Agrees r q
 
+-- s grew to q by free variables of the pattern p alone
+pub record Grows (free : List ℕ) (s : List (ℕ × Tree)) (p : Tree) (q : List (ℕ × Tree)) : Type 0 where
+  pub keeps : (n : ℕ) (v : Tree) → bound s n ≡ Some v → bound q n ≡ Some v
+  pub within : (n : ℕ) (v : Tree) → bound q n ≡ Some v → (bound s n ≡ Some v) ⊎ (Contains free n × StandsIn (var n) p)
+
 -- nothing that agrees with s matches
 abbrev pub Refused : List ℕ → List (ℕ × Tree) → Tree → Tree → Type 0
 Refused free s p t = (r : ℕ → Tree) → Keeps free r → Agrees r s → substitute r p ≡ t → ⊥

@@ -19,7 +19,8 @@ pub(crate) struct Binding<'a> {
 /// differ.
 pub(crate) fn forced_binding<'a>(order: &VarOrder, parts: Parts<'a>) -> Option<Binding<'a>>
     requires { ¬ HaveSameRoot (seen parts.left) (seen parts.right) }
-    ensures { MatchOption result (AreNeverEqual (seen parts.entry.left) (seen parts.entry.right)) (λ b. IsForced order.now.levels.items (seen parts.entry.left) (seen parts.entry.right) b.variable (seen b.term)) }
+    ensures { MatchOption result (AreNeverEqual (seen parts.entry.left) (seen parts.entry.right))
+        (λ b. IsForced order.now.levels.items (seen parts.entry.left) (seen parts.entry.right) b.variable (seen b.term)) }
 {
     let Parts { left, right } = parts;
     match (left.view(), right.view()) {

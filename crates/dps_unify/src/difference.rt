@@ -41,7 +41,8 @@ pub(crate) fn next_difference<'a>(
 ) -> Result<Option<Parts<'a>>, NoMemory>
     requires chain { IsChain bindings.now }
     requires kept { IsKnown bindings.now pending.old }
-    ensures found { IfOk result (λ o. MatchOption o (AreUnified bindings.now (trees_of pending.old)) (λ d. IsDifference bindings.now (trees_of pending.old) (trees_of pending.new) (seen d.left) (seen d.right))) }
+    ensures found { IfOk result (λ o. MatchOption o (AreUnified bindings.now (trees_of pending.old))
+        (λ d. IsDifference bindings.now (trees_of pending.old) (trees_of pending.new) (seen d.left) (seen d.right))) }
     ensures kept { IfOk result (λ o. IfSome o (λ d. IsKnownWith bindings.now (seen d.left) (seen d.right) pending.new)) }
 {
     while let Some(parts) = pending.pop()? {

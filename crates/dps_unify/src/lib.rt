@@ -8,9 +8,11 @@
 mod binding;
 mod bindings;
 mod difference;
+pub mod laws;
 mod matching;
 mod order;
 mod pending;
+mod place;
 mod reaching;
 mod renaming;
 mod solution;

@@ -2,7 +2,8 @@
 ghost use Rattle.std.specs.Prelude.{◌≡◌, ◌↔◌, IfOk, IsTrue, MatchOption, MatchBool};
 ghost use Rattle.dps_terms.specs.Tree.{leaf, var};
 ghost use Rattle.dps_terms.specs.Seen.{seen};
-ghost use Rattle.dps_unify.specs.Matching.{IsMatch, HasNoMatch, Matched, Refused};
+ghost use Rattle.dps_unify.specs.Matching.{IsMatch, HasNoMatch, Matched, Grows, Refused};
+ghost use Rattle.dps_unify.specs.Comparing.{IsCompared};
 
 use dps_terms::{NoMemory, Subst, Term, TermRef, TermView};
 use std::alloc::Global;
@@ -26,7 +27,10 @@ pub fn matches(
 
 /// Extends the solution so that the pattern becomes the term: it binds just variables of the pattern that are among `free` and
 /// are not bound yet, and leaves the others. `false` comes exactly where no substitution of the variables `free` that agrees
-/// with what is bound makes the pattern the term; the solution may then have grown all the same.
+/// with what is bound makes the pattern the term.
+///
+/// Whatever it answers, what was bound stays bound to the same terms, and only such variables are bound besides: after `false`
+/// or want of memory the solution may have grown by some of them.
 pub fn extend_match(
     alloc: Global,
     solution: &mut Subst,
@@ -34,26 +38,47 @@ pub fn extend_match(
     pattern: TermRef<'_>,
     term: TermRef<'_>,
 ) -> Result<bool, NoMemory>
-    ensures { IfOk result (λ b. MatchBool b (Matched free.now solution.old (seen pattern.entry) (seen term.entry) solution.new) (Refused free.now solution.old (seen pattern.entry) (seen term.entry))) }
+    ensures found { IfOk result (λ b. MatchBool b (Matched free.now solution.old (seen pattern.entry) (seen term.entry) solution.new)
+        (Refused free.now solution.old (seen pattern.entry) (seen term.entry))) }
+    ensures grown { Grows free.now solution.old (seen pattern.entry) solution.new }
 {
-    if let TermView::Var(variable) = pattern.view() {
-        return match_variable(alloc, solution, free, variable, term);
-    }
-    if !pattern.has_root_of(term) {
-        return Ok(false);
-    }
-    for index in 0..pattern.arity() {
-        if !extend_match(
-            alloc,
-            solution,
-            free,
-            pattern.argument(index),
-            term.argument(index),
-        )? {
-            return Ok(false);
+    // So many of the term's last nodes are not compared yet.
+    let end = term.node_count();
+    let mut left = end;
+    for node in 0..pattern.node_count() {
+        let part = pattern.subterm(node);
+        let other = term.subterm(end - left);
+        match match_node(alloc, solution, free, part, other)? {
+            Some(compared) => left -= compared,
+            None => return Ok(false),
         }
     }
     Ok(true)
+}
+
+/// How many nodes of the term are compared with the root of the pattern: all where that is a variable, and else the root.
+/// `None` comes where there is no match.
+fn match_node(
+    alloc: Global,
+    solution: &mut Subst,
+    free: &[u64],
+    pattern: TermRef<'_>,
+    term: TermRef<'_>,
+) -> Result<Option<usize>, NoMemory>
+    ensures found { IfOk result (λ o. MatchOption o (Refused free.now solution.old (seen pattern.entry) (seen term.entry))
+        (IsCompared free.now solution.old (seen pattern.entry) (seen term.entry) solution.new)) }
+    ensures grown { Grows free.now solution.old (seen pattern.entry) solution.new }
+{
+    let TermView::Var(variable) = pattern.view() else {
+        if pattern.has_root_of(term) {
+            return Ok(Some(1));
+        }
+        return Ok(None);
+    };
+    if match_variable(alloc, solution, free, variable, term)? {
+        return Ok(Some(term.node_count()));
+    }
+    Ok(None)
 }
 
 /// The same for a pattern that is a variable.
@@ -64,7 +89,9 @@ fn match_variable(
     variable: u64,
     term: TermRef<'_>,
 ) -> Result<bool, NoMemory>
-    ensures { IfOk result (λ b. MatchBool b (Matched free.now solution.old (leaf (var variable)) (seen term.entry) solution.new) (Refused free.now solution.old (leaf (var variable)) (seen term.entry))) }
+    ensures found { IfOk result (λ b. MatchBool b (Matched free.now solution.old (leaf (var variable)) (seen term.entry) solution.new)
+        (Refused free.now solution.old (leaf (var variable)) (seen term.entry))) }
+    ensures grown { Grows free.now solution.old (leaf (var variable)) solution.new }
 {
     if let Some(bound) = solution.get(variable) {
         return Ok(bound.whole().equals(term));

@@ -104,7 +104,8 @@ impl<'a> Pending<'a> {
     ) -> Result<Option<Parts<'a>>, NoMemory>
         requires chain { IsChain bindings.now }
         requires kept { IsKnownWith bindings.now (seen parts.left) (seen parts.right) self.old }
-        ensures pairs { IfOk result (λ o. MatchOption o (IsTakenApart bindings.now self.old (seen parts.entry.left) (seen parts.entry.right) self.new) (λ d. AreApart bindings.now self.old (seen parts.entry.left) (seen parts.entry.right) self.new (seen d.left) (seen d.right))) }
+        ensures pairs { IfOk result (λ o. MatchOption o (IsTakenApart bindings.now self.old (seen parts.entry.left) (seen parts.entry.right) self.new)
+            (λ d. AreApart bindings.now self.old (seen parts.entry.left) (seen parts.entry.right) self.new (seen d.left) (seen d.right))) }
         ensures kept { IfOk result (λ o. MatchOption o (IsKnown bindings.now self.new) (λ d. IsKnownWith bindings.now (seen d.left) (seen d.right) self.new)) }
     {
         let variables = parts.variables();

@@ -1,6 +1,6 @@
 //! Tables of pairs and of patterns.
-use crate::{VarOrder, matches, mgu, rename};
-use dps_terms::{NoMemory, Subst, Sym, Term};
+use crate::{VarOrder, extend_match, matches, mgu, rename};
+use dps_terms::{NoMemory, Subst, Sym, Term, TermLeaf, TermStack};
 use std::alloc::Global;
 use std::test::Fail;
 
@@ -135,5 +135,99 @@ fn renamings(rt: HostRuntime) -> Result<(), Fail> {
     let term = Term::var(alloc, 1)?;
     let raised = rename(alloc, &term, 5)?;
     assert!(rt; raised.equals(&Term::var(alloc, 6)?));
+    Ok(())
+}
+
+/// Extends a solution that binds `?1` to `?7` by a match of `g(?1,?2)`, and gives the size of what `?2` is bound to then, or 0
+/// where there is no match.
+fn extended(alloc: Global, term: Shape) -> Result<u64, NoMemory> {
+    let mut solution = Subst::empty(alloc);
+    solution.bind(1, made(alloc, Shape::Var(7))?)?;
+    let pattern = made(alloc, Shape::G(1, 2))?;
+    let term = made(alloc, term)?;
+    let found = extend_match(alloc, &mut solution, &[1, 2], pattern.whole(), term.whole())?;
+    if !found {
+        return Ok(0);
+    }
+    Ok(bound_size(&solution, 2))
+}
+
+/// The size of what the variable is bound to, and 0 where nothing is.
+fn bound_size(solution: &Subst, variable: u64) -> u64 {
+    match solution.get(variable) {
+        Some(term) => term.size(),
+        None => 0,
+    }
+}
+
+#[test]
+fn extensions(rt: HostRuntime) -> Result<(), Fail> {
+    let alloc = rt.alloc();
+    assert_eq!(&rt; extended(alloc, Shape::G(7, 3))?, 1);
+    assert_eq!(&rt; extended(alloc, Shape::G(3, 3))?, 0);
+    Ok(())
+}
+
+/// So many symbols with one argument, one over the other, over the variable.
+fn chain(alloc: Global, height: u32, variable: u64) -> Result<Term, NoMemory> {
+    let mut stack = TermStack::empty(alloc);
+    stack.push_leaf(TermLeaf::Var(variable))?;
+    for _ in 0..height {
+        stack.apply(Sym { number: 0 }, 1)?;
+    }
+    Ok(stack.into_term())
+}
+
+/// The sizes of what `?9` and `?2` are bound to, where `?9` is a chain over `?1`, and chains over `?1` and `?2` are equal.
+fn unified_chains(alloc: Global, height: u32) -> Result<(u64, u64), NoMemory> {
+    let mut pairs = Vec::new(alloc);
+    pairs.push((Term::var(alloc, 9)?, chain(alloc, height, 1)?))?;
+    pairs.push((chain(alloc, height, 1)?, chain(alloc, height, 2)?))?;
+    let order = VarOrder {
+        levels: Vec::new(alloc),
+    };
+    match mgu(alloc, &order, &pairs)? {
+        Some(found) => Ok((bound_size(&found, 9), bound_size(&found, 2))),
+        None => Ok((0, 0)),
+    }
+}
+
+/// The size of what `?1` is bound to, where the chain over it becomes a chain that is higher by one.
+fn matched_chain(alloc: Global, height: u32) -> Result<u64, NoMemory> {
+    let pattern = chain(alloc, height, 1)?;
+    let term = chain(alloc, height.saturating_add(1), 7)?;
+    match matches(alloc, &pattern, &[1], &term)? {
+        Some(found) => Ok(bound_size(&found, 1)),
+        None => Ok(0),
+    }
+}
+
+/// No depth of a term takes stack.
+#[test]
+fn chains(rt: HostRuntime) -> Result<(), Fail> {
+    let alloc = rt.alloc();
+    for (height, size) in [(0, 1), (60_000, 60_001)] {
+        assert_eq!(&rt; unified_chains(alloc, height)?, (size, 1), "{height}");
+        assert_eq!(&rt; matched_chain(alloc, height)?, 2, "{height}");
+    }
+    Ok(())
+}
+
+/// Whether each of so many variables is bound to a symbol over the next one, where pairs say so.
+fn follows_all(alloc: Global, count: u64) -> Result<bool, NoMemory> {
+    let mut pairs = Vec::new(alloc);
+    for n in 0..count {
+        pairs.push((Shape::Var(n), Shape::F(n + 1)))?;
+    }
+    match unifier(alloc, &[], &pairs)? {
+        Some(found) => Ok(bound_size(&found, 0) == count.saturating_add(1)),
+        None => Ok(false),
+    }
+}
+
+/// Nor does a chain of bindings.
+#[test]
+fn bindings_are_followed(rt: HostRuntime) -> Result<(), Fail> {
+    assert!(&rt; follows_all(rt.alloc(), 1_000)?);
     Ok(())
 }

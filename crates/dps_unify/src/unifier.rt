@@ -73,7 +73,8 @@ fn bind<'a>(
     requires chain { IsChain bindings.old }
     requires free { bound bindings.old binding.variable ≡ None }
     ensures added { IfOk result (λ b. MatchBool b (bindings.new ≡ bindings.old ++ (binding.entry.variable, seen binding.entry.term) ∷ []) (bindings.new ≡ bindings.old)) }
-    ensures cycle { IfOk result (λ b. MatchBool b (¬ StandsIn (var binding.entry.variable) (substitute (solved bindings.old) (seen binding.entry.term))) (StandsIn (var binding.entry.variable) (substitute (solved bindings.old) (seen binding.entry.term)))) }
+    ensures cycle { IfOk result (λ b. MatchBool b (¬ StandsIn (var binding.entry.variable) (substitute (solved bindings.old) (seen binding.entry.term)))
+        (StandsIn (var binding.entry.variable) (substitute (solved bindings.old) (seen binding.entry.term)))) }
 {
     let Binding { variable, term } = binding;
     if reaches(alloc, bindings, variable, term)? {

@@ -6,7 +6,8 @@ use Rattle.dps_unify.proofs.difference.push_arguments.Goals as goal
 
 pub loop-index-preserved : goal.loop-index-preserved
 loop-index-preserved c =
-    pushed_next c.args.pending.now.items c.loop-index.pending.items (record { left = c.argument.result; right = c.argument-in-loop-index.result }) _ (arguments (seen c.args.left)) (arguments (seen c.args.right)) c.loop-index.index
+    pushed_next c.args.pending.now.items c.loop-index.pending.items (record { left = c.argument.result; right = c.argument-in-loop-index.result }) _ (arguments (seen c.args.left))
+    (arguments (seen c.args.right)) c.loop-index.index
     c.loop-index.invariant c.in_ok-push.ensures.items c.argument.ensures c.argument-in-loop-index.ensures
 
 pub returns : goal.returns

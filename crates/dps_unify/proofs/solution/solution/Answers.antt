@@ -11,5 +11,6 @@ bind-requires c =
 
 pub loop-index-preserved : goal.loop-index-preserved
 loop-index-preserved c =
-    solution_next (substitute (solved c.args.bindings.now)) c.args.bindings.now c.loop-index.index c.entry-variable.result.0 (seen c.entry-variable.result.1) c.in_ok-solved.solved c.loop-index.solution c.bind.new.self
+    solution_next (substitute (solved c.args.bindings.now)) c.args.bindings.now c.loop-index.index c.entry-variable.result.0
+    (seen c.entry-variable.result.1) c.in_ok-solved.solved c.loop-index.solution c.bind.new.self
     c.entry-variable.ensures c.loop-index.invariant c.in_ok-solved.ensures c.in_ok-bind.ensures.ok
