@@ -1,5 +1,6 @@
 -- From rules that were judged one by one to an accepted theory, or to the first fault.
-use Rattle.std.proofs.Common.{◌≡◌, ℕ, zero, suc, ◌+◌, ◌-◌, ◌<◌, ◌≤◌, List, [], ◌∷◌, ◌++◌, length, drop, take, get_or, true, refl, sym, ◌∙◌, ap, arith, inl, inr, subst, Some, add-one, drop-cons, map, slice_set}
+use Rattle.std.proofs.Common.{◌≡◌, ℕ, zero, suc, ◌+◌, ◌-◌, ◌<◌, ◌≤◌, List, [], ◌∷◌, ◌++◌, length, drop, take, get_or, true, refl, sym, ◌∙◌, ap, arith, inl, inr, subst}
+use Rattle.std.proofs.Common.{Some, add-one, drop-cons, map, slice_set}
 use Rattle.std.specs.Prelude.{slice_get, Contains, All}
 use Rattle.std.proofs.lemmas.Bool.{cases_lt, eq-eqb}
 use Rattle.std.proofs.lemmas.List.{take_all}
@@ -12,10 +13,9 @@ use Rattle.dps_terms.specs.Signature.{Shape}
 use Rattle.dps_theory.specs.Theory.{Rule, Agree, IsAccepted, HasDestructorRoot}
 use Rattle.dps_theory.specs.Overlaps.{IsOverlap}
 use Rattle.dps_theory.specs.Index.{has_root, listed, HasRootBelow}
-use Rattle.dps_theory.specs.Checking.{numbered_rule, HasForm, IsFault, AreAcceptedBefore, IsFirstFault, IsFirstOverlap, IsRefused}
+use Rattle.dps_theory.specs.Checking.{numbered_rule, HasForm, IsFault, AreAcceptedBefore, IsFirstFault, IsFirstOverlap}
 use Rattle.dps_theory.specs.Judging.{AreJudged, AgreeBefore, IsOverlapBefore}
-use Rattle.dps_theory.specs.declared.check.TheoryRefusal.{TheoryRefusal}
-use Rattle.dps_theory.specs.declared.check.TheoryRefusal.TheVariants.{RootNotDestructor, ArgumentNotConstructor, RightNotConstructor, NotSubterm, Overlap, Memory}
+use Rattle.dps_theory.specs.declared.form.FormFault.{FormFault}
 use Rattle.dps_terms.proofs.Arguments.{leaf_is_no_app}
 use Rattle.dps_theory.proofs.Agreeing.{agrees_itself}
 use Rattle.dps_theory.proofs.Walking.{slice_get-take, Walk, walk_within, walk_agrees, walk_on, walk_end}
@@ -141,16 +141,8 @@ module _ (shapes : List Shape) (rules : List Rule) where
           same_rule : (k : ℕ) (r : Rule) → k ≡ place → slice_get rules k ≡ Some r → q ≡ r
           same_rule k r c e = let m : Some q ≡ Some r = sym at ∙ ap (slice_get rules) (sym c) ∙ e in cc
 
-      first_fault : (n : ℕ) (refusal : TheoryRefusal) → n ≡ place + 1 → IsFault shapes q n refusal → IsFirstFault shapes rules n refusal
-      first_fault n refusal e f = record { rule = q; is = numbered n place q e at; before = accepted_before n e; fault = f }
-
-      pub refused_fault : (refusal : TheoryRefusal) → IsFault shapes q (place + 1) refusal → IsRefused shapes rules refusal
-      refused_fault (RootNotDestructor n) f = first_fault n (RootNotDestructor n) f.0 (refl, f.1)
-      refused_fault (ArgumentNotConstructor n) f = first_fault n (ArgumentNotConstructor n) f.0 (refl, f.1, f.2)
-      refused_fault (RightNotConstructor n) f = first_fault n (RightNotConstructor n) f.0 (refl, f.1, f.2, f.3)
-      refused_fault (NotSubterm n) f = first_fault n (NotSubterm n) f.0 (refl, f.1, f.2, f.3, f.4)
-      refused_fault (Overlap first second unifier) f = absurd f
-      refused_fault Memory f = tt
+      pub first_fault : (fault : FormFault) → IsFault shapes q fault → IsFirstFault shapes rules (place + 1) fault
+      first_fault fault f = record { rule = q; is = numbered (place + 1) place q refl at; before = accepted_before (place + 1) refl; faulty = f }
 
       pub refused_overlap : (earlier : ℕ) (unifier : List (ℕ × Tree)) → HasForm shapes q → IsOverlapBefore rules place earlier q unifier → IsFirstOverlap shapes rules (earlier + 1) (place + 1) unifier
       refused_overlap earlier unifier form o = record {
@@ -182,7 +174,9 @@ root_within shapes (leaf x) f e h = absurd h
 root_within shapes (app g ts) f e h = let d : g ≡ f = cc in omega (arith, slice_get_within shapes g.number _ h, ap (λ s. s.number) d)
 
 -- one more place in the index of all symbols
-pub set_listed : {V : Type 0} (F : V → List ℕ) (vs : List V) (i place : ℕ) (v w : V) → slice_get vs i ≡ Some v → F w ≡ F v ++ place ∷ [] → map F (slice_set vs i w) ≡ slice_set (map F vs) i (listed (map F vs) i ++ place ∷ [])
+pub set_listed :
+    {V : Type 0} (F : V → List ℕ) (vs : List V) (i place : ℕ) (v w : V) → slice_get vs i ≡ Some v → F w ≡ F v ++ place ∷ []
+    → map F (slice_set vs i w) ≡ slice_set (map F vs) i (listed (map F vs) i ++ place ∷ [])
 set_listed F [] i place v w e h = absurd (none-some v e)
 set_listed F (x ∷ vs) zero place v w e h =
     let d : x ≡ v = cc in ap (λ l. l ∷ map F vs) (h ∙ ap (λ o. F o ++ place ∷ []) (sym d))
@@ -201,7 +195,9 @@ pub same_element : {X : Type 0} (xs : List X) (i : ℕ) (x y : X) → slice_get 
 same_element xs i x y a b = let m : Some x ≡ Some y = sym a ∙ b in cc
 
 -- the overlap that was found
-pub overlap_before : (shapes : List Shape) (rules : List Rule) (place : ℕ) (h : AreJudged shapes rules place) (q r : Rule) (earlier : List ℕ) (i : ℕ) (within : i < length earlier) (walk : Walk (take place rules) q (drop i earlier)) (unifier : List (ℕ × Tree)) → slice_get rules (get_or earlier i 0) ≡ Some r → IsOverlap r q unifier → IsOverlapBefore rules place (get_or earlier i 0) q unifier
+pub overlap_before :
+    (shapes : List Shape) (rules : List Rule) (place : ℕ) (h : AreJudged shapes rules place) (q r : Rule) (earlier : List ℕ) (i : ℕ) (within : i < length earlier) (walk : Walk (take place rules) q (drop i earlier)) (unifier : List (ℕ × Tree))
+    → slice_get rules (get_or earlier i 0) ≡ Some r → IsOverlap r q unifier → IsOverlapBefore rules place (get_or earlier i 0) q unifier
 overlap_before shapes rules place h q r earlier i within walk unifier at o = record {
   before = (before_within shapes rules place h q earlier i within walk).0;
   agrees = before_agrees shapes rules place h q earlier i within walk;

@@ -1,5 +1,5 @@
 -- Symmetric encryption in the small: what the one rule computes, and what a kept key hides.
-use Rattle.std.proofs.Common.{◌≡◌, ℕ, zero, suc, ◌<◌, [], ◌∷◌, refl, sym, ◌∙◌, ap, subst, inl, arith}
+use Rattle.std.proofs.Common.{◌≡◌, ℕ, zero, suc, ◌<◌, [], ◌∷◌, refl, sym, ◌∙◌, ap, subst, inl, inr, arith}
 use Rattle.std.specs.Prelude.{codes}
 use Rattle.std.specs.List.{slice_index_or}
 use Rattle.dps_terms.specs.declared.Sym.{Sym}
@@ -14,6 +14,7 @@ use Rattle.dps_theory.specs.Evaluation.{Evaluates, EvaluateAll, Reduces, named, 
 use Rattle.dps_theory.specs.Frames.{succeeds, equal, AreToldApart}
 use Rattle.dps_theory.specs.Examples.{senc, sdec, signature, over, decryption, theory, overlapping, a, b, k, n, m, x, y, told_key}
 use Rattle.dps_theory.proofs.Evaluating.{plain_evaluates, plain_alone, plain_all_alone, one_kind}
+use Rattle.dps_theory.proofs.FormsOfTerms.{leaf_value}
 
 -- the one element of a list
 at_one : {A : Type 0} (r q : A) (i : ℕ) → i < 1 → slice_index_or (r ∷ []) i q ≡ q → r ≡ q
@@ -92,9 +93,6 @@ opened t key p q =
 
 pub opens : Evaluates theory (over sdec (over senc a b) b) a
 opens = opened a b tt tt
-
-pub right_key : IsMessage theory (over sdec (over senc a b) b)
-right_key = (a, opens)
 
 pub different_results : a ≡ b → ⊥
 different_results e = let f : Declared 0 ≡ Declared 1 = cc in let g : ◌≡◌ {A = ℕ} 0 1 = cc in omega arith
@@ -180,6 +178,17 @@ ciphertext_told = (
     over = ((Destructor, refl), ((omega arith, omega arith), ((omega arith, omega arith), tt)));
     holds = (n, opened n k tt tt);
     fails = λ e. let f : m ≡ over senc e.0 k = opened_only m k e.0 (over sdec m k) tt tt refl e.1 in cc;
+  }),
+)
+
+-- only the second has a first message
+pub one_more_told : AreToldApart signature theory [] (k ∷ [])
+one_more_told = (
+  succeeds (leaf (ax 1)),
+  inr (record {
+    over = (omega arith, omega arith);
+    holds = (k, named tt);
+    fails = λ e. leaf_value theory (ax 1) e.0 e.1;
   }),
 )
 

@@ -32,7 +32,9 @@ module _ (signature : Signature) (theory : Theory) where
     same_equalities = λ r s h k. (let p = e.same_equalities r s (other_length first second e.same_length r h) (other_length first second e.same_length s k) in (p.1, p.0));
   }
 
-  pub transitive : (first second third : List Tree) → AreStaticallyEquivalent signature theory first second → AreStaticallyEquivalent signature theory second third → AreStaticallyEquivalent signature theory first third
+  pub transitive :
+      (first second third : List Tree) → AreStaticallyEquivalent signature theory first second → AreStaticallyEquivalent signature theory second third
+      → AreStaticallyEquivalent signature theory first third
   transitive first second third d e = record {
     same_length = d.same_length ∙ e.same_length;
     same_successes = λ r h. (let p = d.same_successes r h in let q = e.same_successes r (other_length second first (sym d.same_length) r h) in (λ s. q.0 (p.0 s), λ s. p.1 (q.1 s)));
@@ -112,7 +114,9 @@ module _ (signature : Signature) where
 
 -- under an accepted theory the values of recipes are compared
 module _ (signature : Signature) (theory : Theory) (accepted : IsAccepted theory) where
-  equal_in : (first second : List Tree) (r s v w x y : Tree) → (HaveOneValue theory first r s → HaveOneValue theory second r s) → HasValue theory first r v → HasValue theory first s w → HasValue theory second r x → HasValue theory second s y → v ≡ w → x ≡ y
+  equal_in :
+      (first second : List Tree) (r s v w x y : Tree) → (HaveOneValue theory first r s → HaveOneValue theory second r s) → HasValue theory first r v
+      → HasValue theory first s w → HasValue theory second r x → HasValue theory second s y → v ≡ w → x ≡ y
   equal_in first second r s v w x y h a b c d e =
       let one : HaveOneValue theory first r s = record { value = w; left = subst (HasValue theory first r) e a; right = b } in
       let two = h one in

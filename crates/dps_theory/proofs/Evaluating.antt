@@ -5,7 +5,8 @@ use Rattle.std.specs.Option.{option_map}
 use Rattle.dps_terms.specs.declared.Sym.{Sym}
 use Rattle.dps_terms.specs.declared.SymKind.{SymKind}
 use Rattle.dps_terms.specs.declared.SymKind.TheVariants.{Constructor, Destructor}
-use Rattle.dps_terms.specs.Tree.{Leaf, public, private, var, ax, entry, rigid, Tree, Trees, leaf, app, none, more, count, IsAmong, StandsIn, IsStrictSubterm, itself, below, in_first, in_rest, strictly}
+use Rattle.dps_terms.specs.Tree.{Leaf, public, private, var, ax, entry, rigid, Tree, Trees, leaf, app, none, more, count, IsAmong, StandsIn, IsStrictSubterm, itself}
+use Rattle.dps_terms.specs.Tree.{below, in_first, in_rest, strictly}
 use Rattle.dps_terms.specs.Replace.{substitute, substitute_all, variables_to}
 use Rattle.dps_terms.specs.Signature.{Shape, HasShape}
 use Rattle.dps_terms.specs.Kinds.{IsPlain, AreBuiltOf, IsName, AnyLeaf, AnySymbol, IsNoVariable, IsClosed, IsConstructorTerm}
@@ -71,7 +72,10 @@ module _ (theory : Theory) where
     instance_plain z (leaf x) c h = h x itself
     instance_plain z (app f ts) c h = (subst (HasShape theory.shapes Constructor f) (sym (count-replace_all (variables_to z) ts)) c.0, instances_plain z ts c.1 (λ x k. h x (below k)))
 
-    pub instances_plain : (z : ℕ → Tree) (ts : Trees) → AreBuiltOf AnyLeaf (HasShape theory.shapes Constructor) ts → ((x : Leaf) → IsAmong (leaf x) ts → IsPlain theory.shapes (variables_to z x)) → AreBuiltOf IsName (HasShape theory.shapes Constructor) (substitute_all z ts)
+    pub instances_plain :
+        (z : ℕ → Tree) (ts : Trees) → AreBuiltOf AnyLeaf (HasShape theory.shapes Constructor) ts
+        → ((x : Leaf) → IsAmong (leaf x) ts → IsPlain theory.shapes (variables_to z x))
+        → AreBuiltOf IsName (HasShape theory.shapes Constructor) (substitute_all z ts)
     instances_plain z none c h = tt
     instances_plain z (more t ts) c h = (instance_plain z t c.0 (λ x k. h x (in_first k)), instances_plain z ts c.1 (λ x k. h x (in_rest k)))
 

@@ -13,10 +13,10 @@ use Rattle.dps_theory.specs.Theory.{Rule, Agree, IsAccepted}
 use Rattle.dps_theory.specs.Overlaps.{room, IsOverlap}
 use Rattle.dps_theory.specs.Checking.{numbered_rule, IsFault, by_itself, by_overlap}
 use Rattle.dps_theory.specs.Laws.{FaultyRulesAreNotAccepted}
-use Rattle.dps_theory.specs.declared.check.TheoryRefusal.{TheoryRefusal}
-use Rattle.dps_theory.specs.declared.check.TheoryRefusal.TheVariants.{RootNotDestructor, ArgumentNotConstructor, RightNotConstructor, NotSubterm, Overlap, Memory}
+use Rattle.dps_theory.specs.declared.form.FormFault.{FormFault}
+use Rattle.dps_theory.specs.declared.form.FormFault.TheVariants.{RootNotDestructor, ArgumentNotConstructor, RightNotConstructor, NotSubterm}
 
-listed_there : (rules : List Rule) (k : ℕ) (r : Rule) → slice_get rules k ≡ Some r → Contains rules r
+pub listed_there : (rules : List Rule) (k : ℕ) (r : Rule) → slice_get rules k ≡ Some r → Contains rules r
 listed_there rules k r e = subst (Contains rules) (get_or_from_slice_get rules k r r e) (Contains-get_or rules k r (slice_get_within rules k r e))
 
 numbered_there : (rules : List Rule) (n : ℕ) (r : Rule) → numbered_rule rules n ≡ Some r → Contains rules r
@@ -32,18 +32,16 @@ overlapping_disagree r q u o agree =
     o.different_right (agree (image u) z (o.same_left ∙ turn q.left) ∙ sym (turn q.right))
 
 -- a rule that is refused by itself stands in no accepted theory
-faulty_rule : (shapes : List Shape) (rules : List Rule) (r : Rule) (n : ℕ) (refusal : TheoryRefusal) → Contains rules r → IsFault shapes r n refusal → ¬ IsAccepted (record { shapes = shapes; rules = rules })
-faulty_rule shapes rules r n (RootNotDestructor i) k f a = f.1 (a.root r k)
-faulty_rule shapes rules r n (ArgumentNotConstructor i) k f a = f.2 (a.arguments r k)
-faulty_rule shapes rules r n (RightNotConstructor i) k f a = f.3 (a.constructed r k)
-faulty_rule shapes rules r n (NotSubterm i) k f a = f.4 (a.bounded r k)
-faulty_rule shapes rules r n (Overlap i j u) k f a = f
-faulty_rule shapes rules r n Memory k f a = f
+pub faulty_rule : (shapes : List Shape) (rules : List Rule) (r : Rule) (fault : FormFault) → Contains rules r → IsFault shapes r fault → ¬ IsAccepted (record { shapes = shapes; rules = rules })
+faulty_rule shapes rules r RootNotDestructor k f a = f (a.root r k)
+faulty_rule shapes rules r ArgumentNotConstructor k f a = f.1 (a.arguments r k)
+faulty_rule shapes rules r RightNotConstructor k f a = f.2 (a.constructed r k)
+faulty_rule shapes rules r NotSubterm k f a = f.3 (a.bounded r k)
 
 pub faulty_rules : FaultyRulesAreNotAccepted
 faulty_rules = λ shapes others rules fault accepted.
     elim fault [
-      | by_itself n refusal f ↦ faulty_rule shapes (others ++ rules) f.rule n refusal (Contains-append_right others rules f.rule (numbered_there rules n f.rule f.is)) f.fault accepted
+      | by_itself n fault f ↦ faulty_rule shapes (others ++ rules) f.rule fault (Contains-append_right others rules f.rule (numbered_there rules n f.rule f.is)) f.faulty accepted
       | by_overlap m n u f ↦
           overlapping_disagree f.earlier f.rule u f.overlap
           (accepted.agreeing f.earlier f.rule (Contains-append_right others rules f.earlier (numbered_there rules m f.earlier f.is_earlier)) (Contains-append_right others rules f.rule (numbered_there rules n f.rule f.is)))

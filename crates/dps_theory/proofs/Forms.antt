@@ -7,7 +7,8 @@ use Rattle.dps_terms.specs.declared.Sym.{Sym}
 use Rattle.dps_terms.specs.declared.SymKind.{SymKind}
 use Rattle.dps_terms.specs.declared.SymKind.TheVariants.{Constructor, Destructor}
 use Rattle.dps_terms.specs.declared.TermView.TheVariants.{App, Var}
-use Rattle.dps_terms.specs.Tree.{Leaf, public, private, var, ax, entry, rigid, Tree, Trees, leaf, app, none, more, list_of, count, IsSubterm, IsAmong, IsStrictSubterm, itself, below, in_first, in_rest, strictly}
+use Rattle.dps_terms.specs.Tree.{Leaf, public, private, var, ax, entry, rigid, Tree, Trees, leaf, app, none, more, list_of, count, IsSubterm, IsAmong, IsStrictSubterm}
+use Rattle.dps_terms.specs.Tree.{itself, below, in_first, in_rest, strictly}
 use Rattle.dps_terms.specs.Views.{view_of, arguments}
 use Rattle.dps_terms.specs.Signature.{Shape, HasShape}
 use Rattle.dps_terms.specs.Kinds.{IsBuiltOf, AreBuiltOf, AnyLeaf, AnySymbol, IsNoVariable, IsClosed, IsConstructorTerm}
@@ -19,16 +20,6 @@ abbrev pub FirstArguments : (Tree → Type 0) → Tree → ℕ → Type 0
 FirstArguments P t i = (j : ℕ) → j < i → (u : Tree) → slice_get (arguments t) j ≡ Some u → P u
 
 module _ (P : Tree → Type 0) (t : Tree) where
-  pub first_more : (i : ℕ) (u : Tree) → FirstArguments P t i → slice_get (arguments t) i ≡ Some u → P u → FirstArguments P t (i + 1)
-  first_more i u h e p j l v d =
-      elim (cases_lt j i) [
-        | inl o ↦ h j o v d
-        | inr o ↦
-            let q : j ≡ i = omega arith in
-            let m : Some u ≡ Some v = sym e ∙ ap (slice_get (arguments t)) (sym q) ∙ d in
-            let same : u ≡ v = cc in subst P same p
-      ]
-
   pub first_all : (i : ℕ) → FirstArguments P t i → length (arguments t) ≤ i → (j : ℕ) (u : Tree) → slice_get (arguments t) j ≡ Some u → P u
   first_all i h l j u e = h j (omega (arith, slice_get_within (arguments t) j u e)) u e
 
@@ -70,28 +61,12 @@ module _ (known : List Shape) where
       let same : f ≡ g = cc in
       let s = shape_here Constructor f g ts n same d in (λ h. (s.0 h.0, h.1), λ h. (s.1 h.0, h.1))
 
-  pub constructor_leaf : (t : Tree) → ((f : Sym) → view_of t ≡ App f → ⊥) → IsConstructorTerm known t
-  constructor_leaf (leaf x) h = tt
-  constructor_leaf (app f ts) h = absurd (h f refl)
-
   -- the root
   pub destructor_root : (t : Tree) (f : Sym) (n : ℕ) → App f ≡ view_of t → n ≡ length (arguments t) → HasShape known Destructor f n ↔ HasDestructorRoot known t
   destructor_root (leaf x) f n e d = absurd (leaf_is_no_app x f (sym e))
   destructor_root (app g ts) f n e d = let same : f ≡ g = cc in shape_here Destructor f g ts n same d
 
-  pub no_destructor_root : (t : Tree) → ((f : Sym) → view_of t ≡ App f → ⊥) → ¬ HasDestructorRoot known t
-  no_destructor_root (leaf x) h k = k
-  no_destructor_root (app f ts) h k = h f refl
-
 -- ground terms
-pub closed_var : (t : Tree) (n : ℕ) → Var n ≡ view_of t → ¬ IsClosed t
-closed_var (leaf (public m)) n e h = cc
-closed_var (leaf (private m)) n e h = cc
-closed_var (leaf (var m)) n e h = h
-closed_var (leaf (ax m)) n e h = cc
-closed_var (leaf (entry m)) n e h = cc
-closed_var (leaf (rigid m)) n e h = cc
-closed_var (app f ts) n e h = cc
 
 pub closed_all : (t : Tree) (i : ℕ) → ((n : ℕ) → view_of t ≡ Var n → ⊥) → FirstArguments IsClosed t i → length (arguments t) ≤ i → IsClosed t
 closed_all (leaf (public m)) i other h l = tt

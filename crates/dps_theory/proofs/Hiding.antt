@@ -108,7 +108,10 @@ module _ (c d : Tree) (pc : IsPlain theory.shapes c) (pd : IsPlain theory.shapes
   same_count : (ts : Trees) → count (replace_all (handles_to (kept_key c)) ts) ≡ count (replace_all (handles_to (kept_key d)) ts)
   same_count ts = count-replace_all (handles_to (kept_key c)) ts ∙ sym (count-replace_all (handles_to (kept_key d)) ts)
 
-  app_alike : (f : Sym) (ts us : Trees) (t u : Tree) → t ≡ app f us → us ≡ replace_all (handles_to (kept_key c)) ts → ((vs : Trees) → EvaluateAll theory us vs → HaveAlike c d (replace_all (handles_to (kept_key d)) ts) vs) → Evaluates theory t u → HasAlike c d (app f (replace_all (handles_to (kept_key d)) ts)) u
+  app_alike :
+      (f : Sym) (ts us : Trees) (t u : Tree) → t ≡ app f us → us ≡ replace_all (handles_to (kept_key c)) ts
+      → ((vs : Trees) → EvaluateAll theory us vs → HaveAlike c d (replace_all (handles_to (kept_key d)) ts) vs) → Evaluates theory t u
+      → HasAlike c d (app f (replace_all (handles_to (kept_key d)) ts)) u
   app_alike f ts us t u e i r (named h) = absurd (cc)
   app_alike f ts us t u e i r (constructed {f = g} {ts = ws} {vs} h q) =
       let same : g ≡ f = (cc) in
@@ -130,7 +133,9 @@ module _ (c d : Tree) (pc : IsPlain theory.shapes c) (pd : IsPlain theory.shapes
   none_alike ts vs e no_terms = no_trees
   none_alike ts vs e (a_term r q) = absurd (cc)
 
-  more_alike : (t u : Tree) (ts us vs ws : Trees) → ws ≡ more t ts → ((v : Tree) → Evaluates theory t v → HasAlike c d u v) → ((vs : Trees) → EvaluateAll theory ts vs → HaveAlike c d us vs) → EvaluateAll theory ws vs → HaveAlike c d (more u us) vs
+  more_alike :
+      (t u : Tree) (ts us vs ws : Trees) → ws ≡ more t ts → ((v : Tree) → Evaluates theory t v → HasAlike c d u v)
+      → ((vs : Trees) → EvaluateAll theory ts vs → HaveAlike c d us vs) → EvaluateAll theory ws vs → HaveAlike c d (more u us) vs
   more_alike t u ts us vs ws e r q no_terms = absurd (cc)
   more_alike t u ts us vs ws e r q (a_term {t = s} {v} {ts = zs} {vs = xs} h z) =
       let one : s ≡ t = (cc) in
@@ -145,7 +150,9 @@ module _ (c d : Tree) (pc : IsPlain theory.shapes c) (pd : IsPlain theory.shapes
     recipe_alike (app f ts) u h e =
         app_alike f ts (replace_all (handles_to (kept_key c)) ts) (in_frame (kept_key c) (app f ts)) u refl refl (λ vs q. recipes_alike ts vs h.1 q) e
 
-    recipes_alike : (ts vs : Trees) → AreBuiltOf (IsRecipeLeaf signature 1) (HasArity (shapes signature)) ts → EvaluateAll theory (replace_all (handles_to (kept_key c)) ts) vs → HaveAlike c d (replace_all (handles_to (kept_key d)) ts) vs
+    recipes_alike :
+        (ts vs : Trees) → AreBuiltOf (IsRecipeLeaf signature 1) (HasArity (shapes signature)) ts
+        → EvaluateAll theory (replace_all (handles_to (kept_key c)) ts) vs → HaveAlike c d (replace_all (handles_to (kept_key d)) ts) vs
     recipes_alike none vs h e = (none, no_terms, none_alike none vs refl e)
     recipes_alike (more t ts) vs h e =
         more_alike (in_frame (kept_key c) t) (in_frame (kept_key d) t) (replace_all (handles_to (kept_key c)) ts) (replace_all (handles_to (kept_key d)) ts) vs (replace_all (handles_to (kept_key c)) (more t ts)) refl (λ v q. recipe_alike t v h.0 q) (λ ws q. recipes_alike ts ws h.1 q) e

@@ -16,3 +16,10 @@ pub mod Accepting
 pub mod Projecting
 pub mod TupleRules
 pub mod Faults
+pub mod RulesDecided
+pub mod RuleRows
+pub mod FormsOfTerms
+pub mod EvaluationDecided
+pub mod ProjectionValues
+pub mod PrivateNames
+pub mod OneFault

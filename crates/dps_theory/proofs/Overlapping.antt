@@ -96,7 +96,9 @@ module _ (r q : Rule) where
   agree_never h y z e = absurd (h (joined (room r) y z) (unified_by y z e))
 
   -- right sides that are equal under the most general unifier
-  pub agree_same : (levels : List (ℕ × ℕ)) (u : List (ℕ × Tree)) → IsMgu levels ((r.left, apart r q) ∷ []) u → IsBounded r → substitute (image u) r.right ≡ substitute (image u) (raised (room r) q.right) → Agree r q
+  pub agree_same :
+      (levels : List (ℕ × ℕ)) (u : List (ℕ × Tree)) → IsMgu levels ((r.left, apart r q) ∷ []) u → IsBounded r
+      → substitute (image u) r.right ≡ substitute (image u) (raised (room r) q.right) → Agree r q
   agree_same levels u m b same y z e =
       let both = joined (room r) y z in
       let k = unified_by y z e in
@@ -149,9 +151,3 @@ module _ (r q : Rule) (by : ℕ) (left : Tree) (is_room : by ≡ room r) (is_lef
     overlap_different d = overlap_found r q u general_apart (λ e. d (e ∙ sym (ap (substitute (image u)) right_apart)))
 
 -- lists of small variables on both sides
-pub small_on_both : (r : Rule) → All (λ n. n < 2 ^ 32) (variables r.left) → All (λ n. n < 2 ^ 32) (variables r.right) → HasSmallVariables r
-small_on_both r h k n o =
-    elim o [
-      | inl a ↦ let c = (variables_are_those r.left n).1 a in subst (λ m. m < 2 ^ 32) c.2 (h c.0 n c.1)
-      | inr a ↦ let c = (variables_are_those r.right n).1 a in subst (λ m. m < 2 ^ 32) c.2 (k c.0 n c.1)
-    ]

@@ -12,7 +12,9 @@ length_range a zero = refl
 length_range a (suc n) = ap suc (length_range (a + 1) n)
 
 -- one more number, counted from 1
-pub upto_next : {X : Type 0} (f : ℕ → X) (before done after : List X) (n : ℕ) (x : X) → 1 ≤ n → done ≡ before ++ map f (range_with_len 1 (n - 1)) → x ≡ f n → after ≡ done ++ x ∷ [] → after ≡ before ++ map f (range_with_len 1 (n + 1 - 1))
+pub upto_next :
+    {X : Type 0} (f : ℕ → X) (before done after : List X) (n : ℕ) (x : X) → 1 ≤ n → done ≡ before ++ map f (range_with_len 1 (n - 1)) → x ≡ f n
+    → after ≡ done ++ x ∷ [] → after ≡ before ++ map f (range_with_len 1 (n + 1 - 1))
 upto_next f before done after n x low d e a =
     let k : n + 1 - 1 ≡ suc (n - 1) = omega arith in
     let m : n ≡ 1 + (n - 1) = omega arith in
@@ -28,7 +30,9 @@ flat_map_push : {X : Type 0} (f : ℕ → List X) (ns : List ℕ) (n : ℕ) → 
 flat_map_push f [] n = append-nil (f n)
 flat_map_push f (m ∷ ns) n = ap (λ l. f m ++ l) (flat_map_push f ns n) ∙ sym (append_assoc (f m) (flat_map f ns) (f n))
 
-pub lists_next : {X : Type 0} (f : ℕ → List X) (done after : List X) (n : ℕ) → 2 ≤ n → done ≡ flat_map f (range_with_len 2 (n - 2)) → after ≡ done ++ f n → after ≡ flat_map f (range_with_len 2 (n + 1 - 2))
+pub lists_next :
+    {X : Type 0} (f : ℕ → List X) (done after : List X) (n : ℕ) → 2 ≤ n → done ≡ flat_map f (range_with_len 2 (n - 2)) → after ≡ done ++ f n
+    → after ≡ flat_map f (range_with_len 2 (n + 1 - 2))
 lists_next f done after n low d a =
     let k : n + 1 - 2 ≡ suc (n - 2) = omega arith in
     let m : n ≡ 2 + (n - 2) = omega arith in

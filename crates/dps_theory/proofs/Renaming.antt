@@ -27,7 +27,9 @@ replace-substitute f by t h =
     replace_in_turn (variables_to by) f t
     ∙ replace_agrees (λ x. replace f (variables_to by x)) (variables_to (λ n. replace f (by n))) t (λ x k. leaf_in_turn f by x (h x k))
 
-pub replace_all-substitute_all : (f : Leaf → Tree) (by : ℕ → Tree) (ts : Trees) → ((x : Leaf) → IsAmong (leaf x) ts → IsNoVariable x → f x ≡ leaf x) → replace_all f (substitute_all by ts) ≡ substitute_all (λ n. replace f (by n)) ts
+pub replace_all-substitute_all :
+    (f : Leaf → Tree) (by : ℕ → Tree) (ts : Trees) → ((x : Leaf) → IsAmong (leaf x) ts → IsNoVariable x → f x ≡ leaf x)
+    → replace_all f (substitute_all by ts) ≡ substitute_all (λ n. replace f (by n)) ts
 replace_all-substitute_all f by ts h =
     replace_all_in_turn (variables_to by) f ts
     ∙ replace_all_agrees (λ x. replace f (variables_to by x)) (variables_to (λ n. replace f (by n))) ts (λ x k. leaf_in_turn f by x (h x k))

@@ -1,5 +1,6 @@
 -- The rules of projections make an accepted theory, with rules that are accepted by themselves too.
-use Rattle.std.proofs.Common.{◌≡◌, ℕ, zero, suc, ◌+◌, ◌<◌, ◌≤◌, ◌^◌, length-append, List, [], ◌∷◌, ◌++◌, length, map, get_or, Option, Some, None, refl, sym, ◌∙◌, ap, arith, ◌⊎◌, inl, inr, subst, unwrap_or, true, nat_eq}
+use Rattle.std.proofs.Common.{◌≡◌, ℕ, zero, suc, ◌+◌, ◌<◌, ◌≤◌, ◌^◌, length-append, List, [], ◌∷◌, ◌++◌, length, map, get_or, Option, Some, None, refl, sym, ◌∙◌, ap}
+use Rattle.std.proofs.Common.{arith, ◌⊎◌, inl, inr, subst, unwrap_or, true, nat_eq}
 use Rattle.std.specs.Prelude.{slice_get, Contains, All, ◌≢◌}
 use Rattle.std.specs.List.{range_with_len, flat_map}
 use Rattle.std.specs.Str.{bytes_eq}
@@ -13,13 +14,13 @@ use Rattle.dps_terms.specs.declared.SymKind.TheVariants.{Constructor, Destructor
 use Rattle.dps_terms.specs.Tree.{Leaf, var, Tree, leaf, app, trees, count, IsSubterm, IsAmong, itself, below, in_first, in_rest, strictly}
 use Rattle.dps_terms.specs.Replace.{substitute}
 use Rattle.dps_terms.specs.Signature.{Symbol, Signature, Shape, HasShape, HasArity, shapes}
-use Rattle.dps_terms.specs.Names.{tuple_name, symbol_named}
+use Rattle.dps_terms.specs.Names.{tuple_name, projection_name, symbol_named}
 use Rattle.dps_terms.specs.Kinds.{AreBuiltOf, AnyLeaf, AnySymbol, IsLeafOver}
 use Rattle.dps_terms.proofs.Arguments.{count-trees}
 use Rattle.dps_theory.specs.Theory.{Rule, Theory, Agree, IsAccepted, IsRuleLeaf, HasDestructorRoot}
 use Rattle.dps_theory.specs.Checking.{HasForm}
 use Rattle.dps_theory.specs.Judging.{root_of}
-use Rattle.dps_theory.specs.Projections.{projection_name, symbol_with, projection_rule, projections_of, rules_for, projections, HasProjections}
+use Rattle.dps_theory.specs.Projections.{symbol_with, projection_rule, projections_of, rules_for, projections, HasProjections}
 use Rattle.dps_theory.specs.Conditions.{IsRuleOver, IsPlainRule, HasNoProjection, AreCheckable}
 use Rattle.dps_theory.specs.Held.{IsKept}
 use Rattle.dps_theory.specs.Index.{HasRootBelow}
@@ -43,7 +44,9 @@ in_append [] ys k x e = inr (k, e)
 in_append (y ∷ xs) ys zero x e = inl (0, e)
 in_append (y ∷ xs) ys (suc k) x e = elim (in_append xs ys k x e) [ inl h ↦ inl (suc h.0, h.1) | inr h ↦ inr h ]
 
-in_flat_map : {X Y : Type 0} (f : X → List Y) (xs : List X) (k : ℕ) (y : Y) → slice_get (flat_map f xs) k ≡ Some y → (x : X) × (j : ℕ) × (l : ℕ) × (slice_get xs j ≡ Some x) × (slice_get (f x) l ≡ Some y)
+in_flat_map :
+    {X Y : Type 0} (f : X → List Y) (xs : List X) (k : ℕ) (y : Y) → slice_get (flat_map f xs) k ≡ Some y
+    → (x : X) × (j : ℕ) × (l : ℕ) × (slice_get xs j ≡ Some x) × (slice_get (f x) l ≡ Some y)
 in_flat_map f [] k y e = absurd (none-some y e)
 in_flat_map f (x ∷ xs) k y e =
     elim (in_append (f x) (flat_map f xs) k y e) [
@@ -63,7 +66,9 @@ pub record IsProjection (signature : Signature) (p : Rule) : Type 0 where
   pub place_high : i ≤ n
   pub is : p ≡ projection_rule signature (record { number = f }) n i
 
-of_length : (signature : Signature) (n : ℕ) (p : Rule) (o : Option ℕ) → symbol_named signature (tuple_name n) ≡ o → 2 ≤ n → n ≤ 8 → (l : ℕ) → slice_get (rules_for signature n o) l ≡ Some p → IsProjection signature p
+of_length :
+    (signature : Signature) (n : ℕ) (p : Rule) (o : Option ℕ) → symbol_named signature (tuple_name n) ≡ o → 2 ≤ n → n ≤ 8 → (l : ℕ)
+    → slice_get (rules_for signature n o) l ≡ Some p → IsProjection signature p
 of_length signature n p None t low high l e = absurd (none-some p e)
 of_length signature n p (Some f) t low high l e =
     let m = in_map (projection_rule signature (record { number = f }) n) (range_with_len 1 n) l p e in
@@ -117,10 +122,10 @@ variable_among a (suc n) i low high =
 
 module _ (signature : Signature) (there : HasProjections signature) where
   module _ (p : Rule) (d : IsProjection signature p) where
-    destructor : (g : ℕ) × (symbol_named signature (projection_name d.i d.n) ≡ Some g) × HasShape (shapes signature) Destructor (record { number = g }) 1
+    pub destructor : (g : ℕ) × (symbol_named signature (projection_name d.i d.n) ≡ Some g) × HasShape (shapes signature) Destructor (record { number = g }) 1
     destructor = there.destructors d.n d.f d.i d.low d.high d.tuple d.place_low d.place_high
 
-    root_number : symbol_with signature (projection_name d.i d.n) ≡ record { number = destructor.0 }
+    pub root_number : symbol_with signature (projection_name d.i d.n) ≡ record { number = destructor.0 }
     root_number = ap (λ o. let s : Sym = record { number = unwrap_or o 0 } in s) destructor.1
 
     root_shape : HasShape (shapes signature) Destructor (symbol_with signature (projection_name d.i d.n)) 1
@@ -151,7 +156,9 @@ module _ (signature : Signature) (there : HasProjections signature) where
         ((tt, ((tt, variables_built IsRuleLeaf AnySymbol (λ k. tt) (range_with_len 1 d.n)), tt)), tt)
 
   -- projections with one root are one rule
-  same_projection : (p q : Rule) (d : IsProjection signature p) (e : IsProjection signature q) → symbol_with signature (projection_name d.i d.n) ≡ symbol_with signature (projection_name e.i e.n) → p ≡ q
+  pub same_projection :
+      (p q : Rule) (d : IsProjection signature p) (e : IsProjection signature q)
+      → symbol_with signature (projection_name d.i d.n) ≡ symbol_with signature (projection_name e.i e.n) → p ≡ q
   same_projection p q d e h =
       let g = destructor p d in
       let k = destructor q e in

@@ -1,5 +1,6 @@
 -- The places of the rules with one root, walked through in order.
-use Rattle.std.proofs.Common.{◌≡◌, ℕ, zero, suc, ◌+◌, ◌<◌, ◌≤◌, List, [], ◌∷◌, ◌++◌, length, drop, take, true, false, nat_eq, refl, sym, ◌∙◌, ap, arith, inl, inr, subst, Some, if◌then◌else◌, slice_set, length-drop, append-nil, ◌-◌, add-one}
+use Rattle.std.proofs.Common.{◌≡◌, ℕ, zero, suc, ◌+◌, ◌<◌, ◌≤◌, List, [], ◌∷◌, ◌++◌, length, drop, take, map, get_or, true, false, nat_eq, refl, sym, ◌∙◌, ap, arith}
+use Rattle.std.proofs.Common.{inl, inr, subst, Some, if◌then◌else◌, slice_set, length-drop, append-nil, ◌-◌, add-one}
 use Rattle.std.specs.Prelude.{slice_get, replicate}
 use Rattle.std.proofs.lemmas.Bool.{cases_Bool, cases_lt, eqb-true}
 use Rattle.std.proofs.lemmas.Option.{none-some}
@@ -194,7 +195,9 @@ root_is_one : (t : Tree) (f g : ℕ) → has_root f t ≡ true → has_root g t 
 root_is_one (leaf x) f g a b = cc
 root_is_one (app h ts) f g a b = sym (eqb-true h.number f a) ∙ eqb-true h.number g b
 
-pub index_next : (rules : List Rule) (r : Rule) (lists after : List (List ℕ)) (f place : ℕ) → IsIndexOf rules lists → has_root f r.left ≡ true → f < length lists → place ≡ length rules → after ≡ slice_set lists f (listed lists f ++ place ∷ []) → IsIndexOf (rules ++ r ∷ []) after
+pub index_next :
+    (rules : List Rule) (r : Rule) (lists after : List (List ℕ)) (f place : ℕ) → IsIndexOf rules lists → has_root f r.left ≡ true → f < length lists
+    → place ≡ length rules → after ≡ slice_set lists f (listed lists f ++ place ∷ []) → IsIndexOf (rules ++ r ∷ []) after
 index_next rules r lists after f place h root within is a g =
     ap (λ l. listed l g) a
     ∙ elim (cases_Bool (has_root g r.left)) [
@@ -234,9 +237,21 @@ one_at [] n h = absurd (omega arith)
 one_at (x ∷ xs) zero h = (x, refl)
 one_at (x ∷ xs) (suc n) h = one_at xs n (omega arith)
 
-pub index_taken : (rules : List Rule) (place f : ℕ) (lists after : List (List ℕ)) → IsIndexOf (take place rules) lists → ((r : Rule) → slice_get rules place ≡ Some r → has_root f r.left ≡ true) → f < length lists → place < length rules → after ≡ slice_set lists f (listed lists f ++ place ∷ []) → IsIndexOf (take (place + 1) rules) after
+pub index_taken :
+    (rules : List Rule) (place f : ℕ) (lists after : List (List ℕ)) → IsIndexOf (take place rules) lists
+    → ((r : Rule) → slice_get rules place ≡ Some r → has_root f r.left ≡ true) → f < length lists → place < length rules
+    → after ≡ slice_set lists f (listed lists f ++ place ∷ []) → IsIndexOf (take (place + 1) rules) after
 index_taken rules place f lists after h root within inside a =
     let r = one_at rules place inside in
     let len : place ≡ length (take place rules) = sym (length_front rules place (omega arith)) in
     subst (λ rs. IsIndexOf rs after) (sym (ap (λ k. take k rules) (add-one place) ∙ taken_one rules place r.0 r.1))
     (index_next (take place rules) r.0 lists after f place h (root r.0 r.1) within len a)
+
+-- one more element of a list of lists
+take_mapped_suc : {X Y : Type 0} (F : X → Y) (xs : List X) (i : ℕ) (d : X) → i < length xs → take (suc i) (map F xs) ≡ take i (map F xs) ++ F (get_or xs i d) ∷ []
+take_mapped_suc F [] i d l = absurd (omega arith)
+take_mapped_suc F (x ∷ xs) zero d l = refl
+take_mapped_suc F (x ∷ xs) (suc i) d l = ap (λ k. F x ∷ k) (take_mapped_suc F xs i d (omega arith))
+
+pub take_mapped : {X Y : Type 0} (F : X → Y) (xs : List X) (i : ℕ) (d : X) → i < length xs → take (i + 1) (map F xs) ≡ take i (map F xs) ++ F (get_or xs i d) ∷ []
+take_mapped F xs i d l = ap (λ k. take k (map F xs)) (add-one i) ∙ take_mapped_suc F xs i d l

@@ -5,11 +5,10 @@ use Rattle.dps_terms.specs.declared.borrowed.TermView.{TermView}
 use Rattle.dps_terms.specs.declared.borrowed.TermView.TheVariants.{App, Public, Private, Var, Ax, Entry, Rigid}
 use Rattle.dps_terms.specs.Tree.{Leaf, public, private, var, ax, entry, rigid, Tree}
 use Rattle.dps_terms.specs.Signature.{Signature, HasShape, shapes}
-use Rattle.dps_terms.specs.Names.{tuple_name, symbol_named}
+use Rattle.dps_terms.specs.Names.{tuple_name, projection_name, symbol_named}
 use Rattle.dps_terms.specs.Kinds.{IsBuiltOf, AnySymbol, IsOver}
 use Rattle.dps_theory.specs.Theory.{Rule, IsDeclaredName}
 use Rattle.dps_theory.specs.Judging.{root_of}
-use Rattle.dps_theory.specs.Projections.{projection_name}
 
 -- a declared name, or a variable with a number below 2^32
 abbrev pub IsSmallRuleLeaf : Leaf → Type 0

@@ -11,8 +11,8 @@ use Rattle.dps_theory.specs.Evaluation.{Evaluates, IsMessage, AreEqual}
 abbrev pub IsFrame : Signature → List Tree → Type 0
 IsFrame signature frame = All (λ t. IsFrameMessage (shapes signature) t × IsOver signature t) frame
 
--- A recipe over a frame is a term over the signature whose handles are of the frame (`IsRecipe`): the attacker's way to
--- compute.
+-- A recipe over a frame is a term of symbols of the signature over public names and the frame's handles (`IsRecipe`): the
+-- attacker's way to compute.
 
 -- the recipe has the value in the frame
 abbrev pub HasValue : Theory → List Tree → Tree → Tree → Type 0
@@ -56,7 +56,7 @@ pub record Separates (signature : Signature) (theory : Theory) (first second : L
   pub holds : HoldsIn theory first test
   pub fails : ¬ HoldsIn theory second test
 
--- some test holds in just one of the frames
+-- some test over one of the frames holds in that one alone
 abbrev pub AreToldApart : Signature → Theory → List Tree → List Tree → Type 0
 AreToldApart signature theory first second =
     (test : Test) × (Separates signature theory first second test ⊎ Separates signature theory second first test)

@@ -12,3 +12,7 @@ pub mod Checkable
 pub mod Judging
 pub mod Projections
 pub mod Conditions
+pub mod RulesDecided
+pub mod LawsOfEvaluation
+pub mod LawsOfFaults
+pub mod LawsOfTests

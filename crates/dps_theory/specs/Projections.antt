@@ -1,17 +1,12 @@
 -- The rules of the projections of tuples.
-use Rattle.std.specs.Prelude.{◌≡◌, ◌≤◌, ◌+◌, ℕ, List, [], ◌∷◌, ◌++◌, map, Option, Some, None, unwrap_or, codes}
+use Rattle.std.specs.Prelude.{◌≡◌, ◌≤◌, ◌+◌, ℕ, List, [], ◌∷◌, ◌++◌, map, Option, Some, None, unwrap_or}
 use Rattle.std.specs.List.{range_with_len, flat_map}
-use Rattle.std.specs.Str.{byte}
 use Rattle.dps_terms.specs.declared.Sym.{Sym}
 use Rattle.dps_terms.specs.declared.SymKind.TheVariants.{Constructor, Destructor}
 use Rattle.dps_terms.specs.Tree.{Tree, leaf, var, app, none, more, trees}
 use Rattle.dps_terms.specs.Signature.{Signature, HasShape, shapes}
-use Rattle.dps_terms.specs.Names.{tuple_name, symbol_named}
+use Rattle.dps_terms.specs.Names.{tuple_name, projection_name, symbol_named}
 use Rattle.dps_theory.specs.Theory.{Rule}
-
--- the text of the i-th projection of the tuples of length n
-abbrev pub projection_name : ℕ → ℕ → List ℕ
-projection_name i n = codes "proj_" ++ ((byte "0" + i) ∷ byte "_" ∷ (byte "0" + n) ∷ [])
 
 -- the symbol with this text
 abbrev pub symbol_with : Signature → List ℕ → Sym

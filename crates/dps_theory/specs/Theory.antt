@@ -48,7 +48,7 @@ pub record IsAccepted (theory : Theory) : Type 0 where
   pub arguments : (r : Rule) → HasRule theory r → HasConstructorArguments theory.shapes r.left
   -- no right side holds a destructor
   pub constructed : (r : Rule) → HasRule theory r → IsConstructorTerm theory.shapes r.right
-  -- no right side is more than a part of its left side
+  -- each right side is a strict part of its left side, or ground
   pub bounded : (r : Rule) → HasRule theory r → IsBounded r
   -- rules that overlap agree
   pub agreeing : (r q : Rule) → HasRule theory r → HasRule theory q → Agree r q

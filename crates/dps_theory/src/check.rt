@@ -5,13 +5,11 @@ ghost use Rattle.dps_theory.specs.Theory.{Rule as RuleValue, IsAccepted};
 ghost use Rattle.dps_theory.specs.Held.{shape_of, theory_of};
 ghost use Rattle.dps_theory.specs.Overlaps.{HasSmallVariables};
 ghost use Rattle.dps_theory.specs.Index.{has_root, places, IsIndexOf};
-ghost use Rattle.dps_theory.specs.Checking.{HasForm, IsFault, IsRefused};
+ghost use Rattle.dps_theory.specs.Checking.{IsRefused};
 ghost use Rattle.dps_theory.specs.Judging.{AreJudged, AgreeBefore, IsOverlapBefore};
 
 use crate::Rule;
-use crate::form::{
-    has_constructor_arguments, has_destructor_root, is_bounded, is_constructor_term,
-};
+use crate::form::{FormFault, form_fault};
 use crate::index::RootIndex;
 use crate::overlap::overlap;
 use crate::shapes::SymbolShape;
@@ -21,21 +19,10 @@ use std::alloc::Global;
 /// Why rules make no accepted theory. The rules are counted from 1.
 #[derive(Drop)]
 pub enum TheoryRefusal {
-    /// No destructor stands at the left root.
-    RootNotDestructor {
+    /// A rule is refused by itself.
+    Form {
         rule: u32,
-    },
-    /// A destructor stands below the left root.
-    ArgumentNotConstructor {
-        rule: u32,
-    },
-    /// A destructor stands on the right side.
-    RightNotConstructor {
-        rule: u32,
-    },
-    /// The right side is neither a strict subterm of the left side nor ground.
-    NotSubterm {
-        rule: u32,
+        fault: FormFault,
     },
     /// The left sides of two rules have a common instance whose right sides differ. In the unifier the first rule's
     /// variables have their numbers, and those of the second are raised by the least number above all of the first's.
@@ -98,8 +85,11 @@ fn judge_rule(
 {
     let rule = &rules[place];
     let number = place as u32 + 1;
-    if let Some(refusal) = form_refusal(known, rule, number) {
-        return Err(refusal);
+    if let Some(fault) = form_fault(known, rule) {
+        return Err(TheoryRefusal::Form {
+            rule: number,
+            fault,
+        });
     }
     let TermView::App(root) = rule.left.whole().view() else {
         unreachable!()
@@ -113,25 +103,6 @@ fn judge_rule(
         }),
         Err(_) => Err(TheoryRefusal::Memory),
     }
-}
-
-/// The first reason for which the rule is refused by itself.
-fn form_refusal(known: &[SymbolShape], rule: &Rule, number: u32) -> Option<TheoryRefusal>
-    ensures { MatchOption result (HasForm (map shape_of known.now) rule.now) (IsFault (map shape_of known.now) rule.now number) }
-{
-    if !has_destructor_root(known, rule.left.whole()) {
-        return Some(TheoryRefusal::RootNotDestructor { rule: number });
-    }
-    if !has_constructor_arguments(known, rule.left.whole()) {
-        return Some(TheoryRefusal::ArgumentNotConstructor { rule: number });
-    }
-    if !is_constructor_term(known, rule.right.whole()) {
-        return Some(TheoryRefusal::RightNotConstructor { rule: number });
-    }
-    if !is_bounded(rule) {
-        return Some(TheoryRefusal::NotSubterm { rule: number });
-    }
-    None
 }
 
 /// The first overlap of the rule at a place with a rule before it, of which those with its left root are given.

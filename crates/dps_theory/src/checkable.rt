@@ -10,14 +10,16 @@ ghost use Rattle.dps_theory.specs.Judging.{root_of};
 ghost use Rattle.dps_theory.specs.Projections.{HasProjections};
 
 use crate::Rule;
-use crate::projections::{projection_text, projections, tuple_text};
+use crate::projections::projections;
 use crate::shapes::{SymbolShape, has_shape, shapes_of};
-use dps_terms::{NoMemory, PublicName, Signature, SymKind, Term, TermRef, TermView};
+use dps_terms::{
+    NoMemory, PublicName, Signature, SymKind, Term, TermRef, TermView, projection_text, tuple_text,
+};
 use std::alloc::Global;
 
 /// Whether rules meet all that `Theory::check` asks of them before it looks at them: there are fewer than 2^24, over the
 /// signature, of declared names and variables with numbers below 2^32, none with a projection at its left root; and the
-/// projections of the tuples that have a symbol are there. It fails for want of memory alone.
+/// projections of the tuples that have a symbol are there. It fails only out of memory.
 pub fn are_checkable(alloc: Global, signature: &Signature, rules: &[Rule]) -> Result<bool, NoMemory>
     ensures { IfOk result (λ b. IsTrue b ↔ AreCheckable signature.now rules.now) }
 {

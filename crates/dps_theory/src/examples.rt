@@ -1,9 +1,9 @@
 //! Small theories, terms and frames with symmetric encryption, and what holds of them: each answer is proved.
-ghost use Rattle.std.specs.Prelude.{MatchBool};
+ghost use Rattle.std.specs.Prelude.{MatchBool, MatchOption};
 ghost use Rattle.dps_theory.specs.Theory.{IsAccepted};
-ghost use Rattle.dps_theory.specs.Evaluation.{IsMessage};
+ghost use Rattle.dps_theory.specs.Evaluation.{Evaluates, IsMessage};
 ghost use Rattle.dps_theory.specs.Frames.{AreStaticallyEquivalent, AreToldApart};
-ghost use Rattle.dps_theory.specs.Examples.{signature, theory, rules_of, term_of, first_of, second_of};
+ghost use Rattle.dps_theory.specs.Examples.{signature, theory, rules_of, computed_under, term_of, value_of, first_of, second_of};
 
 /// A rule list.
 #[derive(Clone, Copy, Debug, PartialEq, Eq)]
@@ -12,11 +12,25 @@ pub enum RuleList {
     Decryption,
     /// `sdec(x,y) -> x` and `sdec(a,y) -> b`: two results for `sdec(a,y)`.
     Overlap,
+    /// `sdec(senc(x,y),y) -> x` and `sdec(a,y) -> b`.
+    TwoRules,
+    /// `sdec(x,y) -> a`.
+    GroundRight,
+    /// `sdec(x,y) -> senc(x,y)`.
+    LargerRight,
+    /// `senc(x,y) -> x`.
+    ConstructorRoot,
+    /// `sdec(x) -> x`: the symbol has two arguments.
+    RootArity,
+    /// `sdec(sdec(x,y),y) -> x`.
+    InnerDestructor,
+    /// `sdec(x,y) -> sdec(a,b)`.
+    RightDestructor,
 }
 
-/// A term over the names `a` and `b`.
+/// A term over the names `a` and `b`, under the rule of decryption where no other is told.
 #[derive(Clone, Copy, Debug, PartialEq, Eq)]
-pub enum Decryption {
+pub enum Computation {
     /// `sdec(senc(a,b),b)`.
     RightKey,
     /// `sdec(senc(a,b),a)`.
@@ -25,6 +39,27 @@ pub enum Decryption {
     NoCiphertext,
     /// `senc(sdec(a,b),b)`.
     BelowConstructor,
+    /// `sdec(senc(a,sdec(senc(b,a),a)),b)`.
+    NestedKey,
+    /// `sdec(a,b)` under the rules `TwoRules`.
+    SecondRule,
+    /// A rigid name.
+    RigidName,
+    /// `ax1`.
+    Handle,
+    /// A variable.
+    Variable,
+}
+
+/// The name that a term evaluates to.
+#[derive(Clone, Copy, Debug, PartialEq, Eq)]
+pub enum Name {
+    /// `a`.
+    A,
+    /// `b`.
+    B,
+    /// The rigid name.
+    Rigid,
 }
 
 /// Two frames; `k`, `m` and `n` are private names.
@@ -38,6 +73,8 @@ pub enum FramePair {
     ToldKey,
     /// `senc(n,k); k` and `m; k`: only a ciphertext is opened.
     Ciphertext,
+    /// No message and `k`: the second has one more.
+    OneMore,
 }
 
 /// Whether the rules make an accepted theory.
@@ -47,18 +84,30 @@ pub fn is_accepted(list: RuleList) -> bool
     match list {
         RuleList::Decryption => true,
         RuleList::Overlap => false,
+        RuleList::TwoRules => true,
+        RuleList::GroundRight => true,
+        RuleList::LargerRight => false,
+        RuleList::ConstructorRoot => false,
+        RuleList::RootArity => false,
+        RuleList::InnerDestructor => false,
+        RuleList::RightDestructor => false,
     }
 }
 
-/// Whether the term is a message under the rule of decryption.
-pub fn is_message(term: Decryption) -> bool
-    ensures { MatchBool result (IsMessage theory (term_of term)) (¬ IsMessage theory (term_of term)) }
+/// What the term evaluates to, and `None` where it is no message.
+pub fn value(term: Computation) -> Option<Name>
+    ensures { MatchOption result (¬ IsMessage (computed_under term) (term_of term)) (λ v. Evaluates (computed_under term) (term_of term) (value_of v)) }
 {
     match term {
-        Decryption::RightKey => true,
-        Decryption::WrongKey => false,
-        Decryption::NoCiphertext => false,
-        Decryption::BelowConstructor => false,
+        Computation::RightKey => Some(Name::A),
+        Computation::WrongKey => None,
+        Computation::NoCiphertext => None,
+        Computation::BelowConstructor => None,
+        Computation::NestedKey => Some(Name::A),
+        Computation::SecondRule => Some(Name::B),
+        Computation::RigidName => Some(Name::Rigid),
+        Computation::Handle => None,
+        Computation::Variable => None,
     }
 }
 
@@ -71,5 +120,6 @@ pub fn are_told_apart(pair: FramePair) -> bool
         FramePair::KeptKey => false,
         FramePair::ToldKey => true,
         FramePair::Ciphertext => true,
+        FramePair::OneMore => true,
     }
 }

@@ -1,17 +1,50 @@
 //! The form of a rule: what stands at its left root, below it and on its right side.
-ghost use Rattle.std.specs.Prelude.{◌↔◌, map, IsTrue};
+ghost use Rattle.std.specs.Prelude.{◌↔◌, map, IsTrue, MatchOption};
 ghost use Rattle.dps_terms.specs.Tree.{IsSubterm, IsStrictSubterm};
 ghost use Rattle.dps_terms.specs.Kinds.{IsClosed, IsConstructorTerm};
 ghost use Rattle.dps_terms.specs.Seen.{seen};
 ghost use Rattle.dps_theory.specs.Theory.{HasDestructorRoot, HasConstructorArguments, IsBounded};
 ghost use Rattle.dps_theory.specs.Held.{shape_of};
+ghost use Rattle.dps_theory.specs.Checking.{HasForm, IsFault};
 
 use crate::Rule;
 use crate::shapes::{SymbolShape, has_shape};
 use dps_terms::{SymKind, TermRef, TermView};
 
+/// What is wrong with a rule by itself.
+#[derive(Clone, Copy, Debug, PartialEq, Eq)]
+pub enum FormFault {
+    /// No destructor stands at the left root.
+    RootNotDestructor,
+    /// A destructor stands below the left root.
+    ArgumentNotConstructor,
+    /// A destructor stands on the right side.
+    RightNotConstructor,
+    /// The right side is neither a strict subterm of the left side nor ground.
+    NotSubterm,
+}
+
+/// The first fault for which the rule is refused by itself.
+pub(crate) fn form_fault(known: &[SymbolShape], rule: &Rule) -> Option<FormFault>
+    ensures { MatchOption result (HasForm (map shape_of known.now) rule.now) (IsFault (map shape_of known.now) rule.now) }
+{
+    if !has_destructor_root(known, rule.left.whole()) {
+        return Some(FormFault::RootNotDestructor);
+    }
+    if !has_constructor_arguments(known, rule.left.whole()) {
+        return Some(FormFault::ArgumentNotConstructor);
+    }
+    if !is_constructor_term(known, rule.right.whole()) {
+        return Some(FormFault::RightNotConstructor);
+    }
+    if !is_bounded(rule) {
+        return Some(FormFault::NotSubterm);
+    }
+    None
+}
+
 /// Whether a destructor stands at the root.
-pub(crate) fn has_destructor_root(known: &[SymbolShape], left: TermRef<'_>) -> bool
+fn has_destructor_root(known: &[SymbolShape], left: TermRef<'_>) -> bool
     ensures { IsTrue result ↔ HasDestructorRoot (map shape_of known.now) (seen left.entry) }
 {
     match left.view() {
@@ -22,7 +55,7 @@ pub(crate) fn has_destructor_root(known: &[SymbolShape], left: TermRef<'_>) -> b
 
 /// Whether the term is made of constructors alone, over any leaves.
 #[cycle(constructors)]
-pub(crate) fn is_constructor_term(known: &[SymbolShape], term: TermRef<'_>) -> bool
+fn is_constructor_term(known: &[SymbolShape], term: TermRef<'_>) -> bool
     ensures { IsTrue result ↔ IsConstructorTerm (map shape_of known.now) (seen term.entry) }
 {
     match term.view() {
@@ -36,7 +69,7 @@ pub(crate) fn is_constructor_term(known: &[SymbolShape], term: TermRef<'_>) -> b
 
 /// Whether constructors alone stand below the root.
 #[cycle(constructors)]
-pub(crate) fn has_constructor_arguments(known: &[SymbolShape], term: TermRef<'_>) -> bool
+fn has_constructor_arguments(known: &[SymbolShape], term: TermRef<'_>) -> bool
     ensures { IsTrue result ↔ HasConstructorArguments (map shape_of known.now) (seen term.entry) }
 {
     for index in 0..term.arity() {
@@ -48,7 +81,7 @@ pub(crate) fn has_constructor_arguments(known: &[SymbolShape], term: TermRef<'_>
 }
 
 /// Whether the right side is a strict subterm of the left side, or ground.
-pub(crate) fn is_bounded(rule: &Rule) -> bool
+fn is_bounded(rule: &Rule) -> bool
     ensures { IsTrue result ↔ IsBounded rule.now }
 {
     is_closed(rule.right.whole()) || is_strict_subterm(rule.right.whole(), rule.left.whole())

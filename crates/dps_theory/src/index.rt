@@ -33,6 +33,19 @@ impl RootIndex {
         Ok(RootIndex { by_root })
     }
 
+    /// A copy.
+    pub(crate) fn copy(&self, alloc: Global) -> Result<RootIndex, NoMemory>
+        ensures { IfOk result (λ index. index ≡ self.now) }
+    {
+        let mut by_root = Vec::with_capacity(alloc, self.by_root.len())?;
+        for places in self.by_root.as_slice() {
+            let mut copies = Vec::new(alloc);
+            copies.extend_from_slice(places.as_slice())?;
+            by_root.push(copies)?;
+        }
+        Ok(RootIndex { by_root })
+    }
+
     /// The places of the rules of a symbol.
     pub(crate) fn of(&self, symbol: u32) -> &[u32]
         ensures { result.now ≡ listed self.now symbol }

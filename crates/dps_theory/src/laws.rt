@@ -1,4 +1,8 @@
 //! The laws of theories, evaluation and static equivalence. Each function does nothing: its contract is the law.
+ghost use Rattle.dps_theory.specs.LawsOfFaults.{NoRulesHaveTwoFaults};
+ghost use Rattle.dps_theory.specs.RulesDecided.{RulesAreDecided};
+ghost use Rattle.dps_theory.specs.LawsOfEvaluation.{LeavesEvaluate, ArgumentsEvaluate, ConstructorsEvaluate, DestructorsEvaluate, UnknownSymbolsHaveNoValue, EvaluationIsDecided, EqualityIsDecided, ProjectionsGiveMembers, PrivateNamesAreAlike};
+ghost use Rattle.dps_theory.specs.LawsOfTests.{EquivalenceIsOfTests};
 ghost use Rattle.dps_theory.specs.Laws.{FaultyRulesAreNotAccepted, AcceptedRulesJoinProjections, EvaluatesAtMostOnce, PlainStays, ValuesArePlain, ValuesHoldNoNewLeaf, PlainRulesAreKept, ReplacedNamesEvaluate, ReplacedNamesReflect, StaticallyReflexive, StaticallySymmetric, StaticallyTransitive, PrefixesStayEquivalent, SeparatedAreNotEquivalent, EquivalenceIsOfValues, UndeclaredNamesAreUnseen};
 
 /// Rules with a first fault make no accepted theory.
@@ -9,6 +13,31 @@ pub fn faulty_rules_are_not_accepted()
 /// Rules that are accepted by themselves are accepted behind those of the projections.
 pub fn accepted_rules_join_projections()
     ensures { AcceptedRulesJoinProjections }
+{}
+
+/// What each form of term evaluates to, and that it does so in no other way.
+pub fn terms_evaluate_by_form()
+    ensures leaves { LeavesEvaluate }
+    ensures arguments { ArgumentsEvaluate }
+    ensures constructors { ConstructorsEvaluate }
+    ensures destructors { DestructorsEvaluate }
+    ensures unknown { UnknownSymbolsHaveNoValue }
+{}
+
+/// Under an accepted theory each term is a message or none, and two terms have one value or not.
+pub fn evaluation_is_decided()
+    ensures messages { EvaluationIsDecided }
+    ensures equality { EqualityIsDecided }
+{}
+
+/// Projections give the members of tuples, and nothing of whatever else.
+pub fn projections_give_members()
+    ensures { ProjectionsGiveMembers }
+{}
+
+/// Where the rules hold no private name, evaluation does not see the numbers of private names.
+pub fn private_names_are_alike()
+    ensures { PrivateNamesAreAlike }
 {}
 
 /// Under an accepted theory a term evaluates to at most one value.
@@ -76,7 +105,22 @@ pub fn equivalence_is_of_values()
     ensures { EquivalenceIsOfValues }
 {}
 
+/// Static equivalence is one length and the same tests.
+pub fn equivalence_is_of_tests()
+    ensures { EquivalenceIsOfTests }
+{}
+
 /// Names that stand neither in the frames nor in the rules matter to no static equivalence.
 pub fn undeclared_names_are_unseen()
     ensures { UndeclaredNamesAreUnseen }
+{}
+
+/// Rules make an accepted theory by themselves, or have a first fault.
+pub fn rules_are_decided()
+    ensures { RulesAreDecided }
+{}
+
+/// Rules have at most one first fault.
+pub fn no_rules_have_two_faults()
+    ensures { NoRulesHaveTwoFaults }
 {}

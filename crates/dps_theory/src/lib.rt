@@ -22,6 +22,7 @@ mod theory;
 
 pub use check::TheoryRefusal;
 pub use checkable::are_checkable;
+pub use form::FormFault;
 pub use rule::Rule;
 pub use theory::Theory;
 

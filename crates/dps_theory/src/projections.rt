@@ -1,12 +1,11 @@
 //! The rules of the projections of tuples.
 ghost use Rattle.std.specs.Prelude.{◌≡◌, ◌≤◌, ◌+◌, ◌++◌, ◌∷◌, [], ℕ, map, Some, IfOk, OnOk, string_bytes};
 ghost use Rattle.std.specs.List.{range_with_len};
-ghost use Rattle.std.specs.Str.{byte};
-ghost use Rattle.dps_terms.specs.Names.{tuple_name, symbol_named};
-ghost use Rattle.dps_theory.specs.Projections.{projection_name, projection_rule, projections as projection_rules, projections_of, tuple_of, HasProjections};
+ghost use Rattle.dps_terms.specs.Names.{projection_name, symbol_named};
+ghost use Rattle.dps_theory.specs.Projections.{projection_rule, projections as projection_rules, projections_of, tuple_of, HasProjections};
 
 use crate::Rule;
-use dps_terms::{NoMemory, Signature, Sym, Term};
+use dps_terms::{NoMemory, Signature, Sym, Term, projection_text, tuple_text};
 use std::alloc::Global;
 
 /// The rules `proj_i_n((x1,..,xn)) -> xi`, for each n with a symbol of tuples, by n and i.
@@ -36,23 +35,6 @@ fn push_projections(
     match signature.symbol(tuple_text(length)) {
         Some(tuple) => push_rules(alloc, signature, rules, tuple, length),
         None => Ok(()),
-    }
-}
-
-/// The text of the symbol of the tuples of a length.
-pub(crate) fn tuple_text(length: u32) -> &'static str
-    requires low { 2 ≤ length }
-    requires high { length ≤ 8 }
-    ensures { result.now ≡ tuple_name length }
-{
-    match length {
-        2 => "(2)",
-        3 => "(3)",
-        4 => "(4)",
-        5 => "(5)",
-        6 => "(6)",
-        7 => "(7)",
-        _ => "(8)",
     }
 }
 
@@ -97,38 +79,6 @@ fn projection(
     let left = Term::app(alloc, destructor, tuples)?;
     let right = Term::var(alloc, place as u64)?;
     Ok(Rule { left, right })
-}
-
-/// The text of a projection.
-pub(crate) fn projection_text(alloc: Global, place: u32, length: u32) -> Result<String, NoMemory>
-    requires low { 1 ≤ place }
-    requires high { place ≤ length }
-    requires few { length ≤ 8 }
-    ensures { IfOk result (λ s. string_bytes s ≡ projection_name place length) }
-{
-    let mut text = String::from_str(alloc, "proj_")?;
-    text.push_str(digit(place))?;
-    text.push_str("_")?;
-    text.push_str(digit(length))?;
-    Ok(text)
-}
-
-/// The text of a number from 1 to 8.
-fn digit(number: u32) -> &'static str
-    requires low { 1 ≤ number }
-    requires high { number ≤ 8 }
-    ensures { result.now ≡ (byte "0" + number) ∷ [] }
-{
-    match number {
-        1 => "1",
-        2 => "2",
-        3 => "3",
-        4 => "4",
-        5 => "5",
-        6 => "6",
-        7 => "7",
-        _ => "8",
-    }
 }
 
 /// `(x1,..,xn)`.

@@ -47,3 +47,14 @@ impl Rule {
         room_of(alloc, &self.left)
     }
 }
+
+/// Copies of the rules.
+pub(crate) fn copied(alloc: Global, rules: &[Rule]) -> Result<Vec<Rule>, NoMemory>
+    ensures { IfOk result (λ v. v.items ≡ rules.now) }
+{
+    let mut copies = Vec::new(alloc);
+    for rule in rules {
+        copies.push(rule.copy(alloc)?)?;
+    }
+    Ok(copies)
+}

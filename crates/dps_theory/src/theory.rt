@@ -13,6 +13,7 @@ use crate::Rule;
 use crate::check::{TheoryRefusal, judge};
 use crate::index::{RootIndex, index_of};
 use crate::projections::projections;
+use crate::rule::copied;
 use crate::shapes::{SymbolShape, shapes_of};
 use dps_terms::{NoMemory, Signature, Sym, SymKind};
 use std::alloc::Global;
@@ -68,7 +69,7 @@ impl Theory {
     /// a constructor of arity n, and `proj_1_n` to `proj_n_n` are there, as destructors of arity 1.
     ///
     /// The rules are tried in order, each by itself and then with those before it, in order; the first fault is the
-    /// refusal. `Memory` comes where memory was wanting.
+    /// refusal. `Memory` comes where memory ran out.
     pub fn check(
         alloc: Global,
         signature: &Signature,
@@ -111,6 +112,19 @@ impl Theory {
             shapes: known,
             rules: all,
             index,
+        })
+    }
+
+    /// A copy.
+    pub fn copy(&self, alloc: Global) -> Result<Theory, NoMemory>
+        ensures { IfOk result (λ theory. theory ≡ self.now) }
+    {
+        let mut shapes = Vec::new(alloc);
+        shapes.extend_from_slice(self.shapes.as_slice())?;
+        Ok(Theory {
+            shapes,
+            rules: copied(alloc, self.rules.as_slice())?,
+            index: self.index.copy(alloc)?,
         })
     }
 

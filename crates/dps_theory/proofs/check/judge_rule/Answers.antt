@@ -5,13 +5,13 @@ use Rattle.dps_terms.specs.Seen.{seen}
 use Rattle.dps_theory.specs.Theory.{Rule, HasDestructorRoot}
 use Rattle.dps_theory.specs.Held.{shape_of}
 use Rattle.dps_theory.specs.Index.{has_root}
-use Rattle.dps_theory.proofs.Accepting.{refused_fault, refused_overlap, judged_next, root_from_view, root_within, same_element}
+use Rattle.dps_theory.proofs.Accepting.{first_fault, refused_overlap, judged_next, root_from_view, root_within, same_element}
 use Rattle.dps_theory.proofs.check.judge_rule.Goals as goal
 
 pub returns-in-Some-clause-refused : goal.returns-in-Some-clause-refused
 returns-in-Some-clause-refused c =
     let here = slice_get_read c.args.rules.now (length c.args.rules.now) _ _ refl c.requires.inside c.index-rules-place.is in
-    refused_fault (map shape_of c.args.known.now) c.args.rules.now c.args.place c.requires.judged c.index-rules-place.result here c.in-Some.refusal c.in-Some.ensures
+    first_fault (map shape_of c.args.known.now) c.args.rules.now c.args.place c.requires.judged c.index-rules-place.result here c.in-Some.fault c.in-Some.ensures
 
 pub earlier_overlap-requires-clause-listed : goal.earlier_overlap-requires-clause-listed
 earlier_overlap-requires-clause-listed c =
