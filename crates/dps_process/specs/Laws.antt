@@ -1,5 +1,5 @@
 -- What a reader expects of steps, traces and equivalence, each stated as one fact.
-use Rattle.std.specs.Prelude.{◌≡◌, ◌≢◌, ◌⊎◌, ◌↔◌, ℕ, ◌<◌, List, [], ◌∷◌, ◌++◌, length, All, Contains}
+use Rattle.std.specs.Prelude.{◌≡◌, ◌≢◌, ◌⊎◌, ◌↔◌, ℕ, ◌<◌, List, ◌∷◌, ◌++◌, length, All, Contains, ⊤}
 use Rattle.dps_branch.specs.declared.Side.{Side}
 use Rattle.dps_branch.specs.Sides.{opposite}
 use Rattle.dps_terms.specs.Tree.{var, Tree, StandsIn}
@@ -8,10 +8,11 @@ use Rattle.dps_terms.specs.Kinds.{IsClosed, IsFrameMessage, IsOver, IsPartTerm, 
 use Rattle.dps_theory.specs.Theory.{Theory}
 use Rattle.dps_theory.specs.Evaluation.{Evaluates}
 use Rattle.dps_theory.specs.Frames.{HasValue, IsFrame}
-use Rattle.dps_process.specs.Process.{Process, nil, parallel, choice, part_nodes, IsFree, IsClosedProcess, put, EachTerm, EachChannel, EachBinder}
+use Rattle.dps_process.specs.Models.{Model, Eavesdrop}
+use Rattle.dps_process.specs.Process.{Process, parallel, choice, part_nodes, IsFree, IsClosedProcess, put, EachTerm, EachChannel, EachBinder}
 use Rattle.dps_process.specs.Problem.{Problem, side_of, IsLawful, IsLawfulTheory}
-use Rattle.dps_process.specs.Steps.{Config, start, Label, inputs, outputs, Action, silent, Moves, Step, AreOneBag}
-use Rattle.dps_process.specs.Traces.{Runs, IsTrace, Ends, Matches, AreTraceEquivalent, IsEquivalent, IsTraceOf, IsAttack}
+use Rattle.dps_process.specs.Steps.{Config, start, Label, inputs, outputs, overhears, Action, Step, AreOneBag}
+use Rattle.dps_process.specs.Traces.{Runs, IsTrace, Ends, Matches, IsIncluded, AreTraceEquivalent, IsEquivalent, IsTraceOf, IsAttack}
 use Rattle.dps_process.specs.Lawful.{IsLawfulConfig, AreLawfulLabels}
 
 -- being one bag is an equivalence
@@ -33,32 +34,23 @@ NeighboursSwap =
 -- the order of the parts matters to no run
 abbrev pub OrderIsUnseen : Type 0
 OrderIsUnseen =
-    (signature : Signature) (theory : Theory) (c d : Config) (word : List Label) (frame : List Tree)
+    (model : Model) (signature : Signature) (theory : Theory) (c d : Config) (word : List Label) (frame : List Tree)
     → AreOneBag c d
-    → Ends signature theory c word frame
-    → Ends signature theory d word frame
-
--- `0` goes silently, and does nothing else
-abbrev pub NilEnds : Type 0
-NilEnds =
-    (signature : Signature) (theory : Theory) (frame : List Tree)
-    → Moves signature theory frame nil silent [] []
-    × ((action : Action) (become : List Process) (added : List Tree)
-    → Moves signature theory frame nil action become added
-    → (action ≡ silent) × (become ≡ []) × (added ≡ []))
+    → Ends model signature theory c word frame
+    → Ends model signature theory d word frame
 
 -- each step uses up a process node, so each list of steps is finite
 abbrev pub StepsUseUp : Type 0
 StepsUseUp =
-    (signature : Signature) (theory : Theory) (c d : Config) (action : Action)
-    → Step signature theory c action d
+    (model : Model) (signature : Signature) (theory : Theory) (c d : Config) (action : Action)
+    → Step model signature theory c action d
     → part_nodes d.parts < part_nodes c.parts
 
 -- a run only adds to the frame
 abbrev pub FramesGrow : Type 0
 FramesGrow =
-    (signature : Signature) (theory : Theory) (c d : Config) (word : List Label)
-    → Runs signature theory c word d
+    (model : Model) (signature : Signature) (theory : Theory) (c d : Config) (word : List Label)
+    → Runs model signature theory c word d
     → (added : List Tree) × (d.frame ≡ c.frame ++ added)
 
 -- a closed process has no variable to put a term for
@@ -81,13 +73,14 @@ UnboundIsFree = (x : ℕ) (p : Process) → EachBinder (λ y. x ≢ y) p → (¬
 abbrev pub channel_of : Label → ℕ
 channel_of (inputs c r) = c
 channel_of (outputs c j) = c
+channel_of (overhears c j) = c
 
 -- the labels of a trace name channels of the process
 abbrev pub LabelsNameChannels : Type 0
 LabelsNameChannels =
-    (channels : List ℕ) (signature : Signature) (theory : Theory) (p : Process) (word : List Label) (frame : List Tree)
+    (channels : List ℕ) (model : Model) (signature : Signature) (theory : Theory) (p : Process) (word : List Label) (frame : List Tree)
     → EachChannel (λ c. Contains channels c) p
-    → IsTrace signature theory p word frame
+    → IsTrace model signature theory p word frame
     → All (λ l. Contains channels (channel_of l)) word
 
 -- what a term over the signature evaluates to is a message of a frame over the signature
@@ -119,19 +112,19 @@ SidesStartLawful =
 -- a step of a lawful configuration leads to a lawful one
 abbrev pub StepsStayLawful : Type 0
 StepsStayLawful =
-    (signature : Signature) (theory : Theory) (c d : Config) (action : Action)
+    (model : Model) (signature : Signature) (theory : Theory) (c d : Config) (action : Action)
     → IsLawfulTheory signature theory
     → IsLawfulConfig signature c
-    → Step signature theory c action d
+    → Step model signature theory c action d
     → IsLawfulConfig signature d
 
 -- and so does a run
 abbrev pub RunsStayLawful : Type 0
 RunsStayLawful =
-    (signature : Signature) (theory : Theory) (c d : Config) (word : List Label)
+    (model : Model) (signature : Signature) (theory : Theory) (c d : Config) (word : List Label)
     → IsLawfulTheory signature theory
     → IsLawfulConfig signature c
-    → Runs signature theory c word d
+    → Runs model signature theory c word d
     → IsLawfulConfig signature d
 
 -- so each trace of a lawful problem ends in a frame over its signature
@@ -142,34 +135,68 @@ TracesEndInFrames =
     → IsTraceOf problem side word frame
     → IsFrame problem.signature frame
 
+-- nothing is overheard but in the eavesdrop model
+abbrev pub IsUnheard : Label → Type 0
+IsUnheard (inputs c r) = ⊤
+IsUnheard (outputs c j) = ⊤
+IsUnheard (overhears c j) = ⊥
+
+abbrev pub OnlyEavesdropOverhears : Type 0
+OnlyEavesdropOverhears =
+    (model : Model) (signature : Signature) (theory : Theory) (p : Process) (word : List Label) (frame : List Tree)
+    → model ≢ Eavesdrop
+    → IsTrace model signature theory p word frame
+    → All IsUnheard word
+
+-- the first labels of a trace are a trace, and its frame begins the other
+abbrev pub PrefixesAreTraces : Type 0
+PrefixesAreTraces =
+    (model : Model) (signature : Signature) (theory : Theory) (p : Process) (word more : List Label) (frame : List Tree)
+    → IsTrace model signature theory p (word ++ more) frame
+    → (earlier : List Tree) × (added : List Tree) × IsTrace model signature theory p word earlier × (frame ≡ earlier ++ added)
+
 -- the labels of a trace name public channels, hold recipes over the frames of their moments, and number the messages of
 -- the last frame in order
 abbrev pub TracesHaveLawfulLabels : Type 0
 TracesHaveLawfulLabels =
-    (signature : Signature) (theory : Theory) (p : Process) (word : List Label) (frame : List Tree)
-    → IsTrace signature theory p word frame
+    (model : Model) (signature : Signature) (theory : Theory) (p : Process) (word : List Label) (frame : List Tree)
+    → IsTrace model signature theory p word frame
     → AreLawfulLabels signature 0 word (length frame)
+
+-- inclusion is reflexive and transitive, and two inclusions are equivalence
+abbrev pub InclusionReflexive : Type 0
+InclusionReflexive = (model : Model) (signature : Signature) (theory : Theory) (p : Process) → IsIncluded model signature theory p p
+
+abbrev pub InclusionTransitive : Type 0
+InclusionTransitive =
+    (model : Model) (signature : Signature) (theory : Theory) (p q r : Process)
+    → IsIncluded model signature theory p q → IsIncluded model signature theory q r → IsIncluded model signature theory p r
+
+abbrev pub InclusionsAreEquivalence : Type 0
+InclusionsAreEquivalence =
+    (model : Model) (signature : Signature) (theory : Theory) (p q : Process)
+    → AreTraceEquivalent model signature theory p q ↔ (IsIncluded model signature theory p q × IsIncluded model signature theory q p)
 
 -- trace equivalence is an equivalence
 abbrev pub TracesReflexive : Type 0
-TracesReflexive = (signature : Signature) (theory : Theory) (p : Process) → AreTraceEquivalent signature theory p p
+TracesReflexive = (model : Model) (signature : Signature) (theory : Theory) (p : Process) → AreTraceEquivalent model signature theory p p
 
 abbrev pub TracesSymmetric : Type 0
 TracesSymmetric =
-    (signature : Signature) (theory : Theory) (p q : Process)
-    → AreTraceEquivalent signature theory p q → AreTraceEquivalent signature theory q p
+    (model : Model) (signature : Signature) (theory : Theory) (p q : Process)
+    → AreTraceEquivalent model signature theory p q → AreTraceEquivalent model signature theory q p
 
 abbrev pub TracesTransitive : Type 0
 TracesTransitive =
-    (signature : Signature) (theory : Theory) (p q r : Process)
-    → AreTraceEquivalent signature theory p q → AreTraceEquivalent signature theory q r → AreTraceEquivalent signature theory p r
+    (model : Model) (signature : Signature) (theory : Theory) (p q r : Process)
+    → AreTraceEquivalent model signature theory p q → AreTraceEquivalent model signature theory q r → AreTraceEquivalent model signature theory p r
 
 -- the order of the two processes does not matter
 abbrev pub ChoiceCommutes : Type 0
-ChoiceCommutes = (signature : Signature) (theory : Theory) (p q : Process) → AreTraceEquivalent signature theory (choice p q) (choice q p)
+ChoiceCommutes = (model : Model) (signature : Signature) (theory : Theory) (p q : Process) → AreTraceEquivalent model signature theory (choice p q) (choice q p)
 
 abbrev pub ParallelCommutes : Type 0
-ParallelCommutes = (signature : Signature) (theory : Theory) (p q : Process) → AreTraceEquivalent signature theory (parallel p q) (parallel q p)
+ParallelCommutes = (model : Model) (signature : Signature) (theory : Theory) (p q : Process) → AreTraceEquivalent model signature theory (parallel p q) (parallel q p)
 
 -- an attack refutes equivalence
 abbrev pub AttackRefutes : Type 0
@@ -182,15 +209,15 @@ NoAttackLeavesNoneUnmatched =
     → ((side : Side) (word : List Label) → ¬ IsAttack problem side word)
     ↔ ((side : Side) (word : List Label) (frame : List Tree)
     → IsTraceOf problem side word frame
-    → ¬ (¬ Matches problem.signature problem.theory (side_of problem (opposite side)) word frame))
+    → ¬ (¬ Matches problem.model problem.signature problem.theory (side_of problem (opposite side)) word frame))
 
 -- for each trace of either side it is decided whether the other side matches it
 abbrev pub IsDecided : Problem → Type 0
 IsDecided problem =
     (side : Side) (word : List Label) (frame : List Tree)
     → IsTraceOf problem side word frame
-    → Matches problem.signature problem.theory (side_of problem (opposite side)) word frame
-    ⊎ ¬ Matches problem.signature problem.theory (side_of problem (opposite side)) word frame
+    → Matches problem.model problem.signature problem.theory (side_of problem (opposite side)) word frame
+    ⊎ ¬ Matches problem.model problem.signature problem.theory (side_of problem (opposite side)) word frame
 
 -- where that is decided and there is no attack of either side, the sides are equivalent
 abbrev pub NoAttackIsEquivalence : Type 0

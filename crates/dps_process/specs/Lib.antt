@@ -1,11 +1,13 @@
 pub mod Process
+pub mod Models
 pub mod Problem
 pub mod Steps
+pub mod Forms
 pub mod Traces
 pub mod Lawful
 pub mod Laws
-pub mod Examples
-pub mod Runs
+pub mod LawsOfReplacement
+pub mod Silence
 pub mod Stored
 pub mod Nodes
 pub mod Deeper
@@ -14,3 +16,5 @@ pub mod Binders
 pub mod Scopes
 pub mod Kept
 pub mod Checks
+pub mod Labels
+pub mod LawsOfNames

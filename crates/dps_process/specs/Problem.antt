@@ -1,4 +1,4 @@
--- Problems: two processes over a signature and a theory.
+-- Problems: two processes over a signature and a theory, in a model of communication.
 use Rattle.std.specs.Prelude.{◌≡◌, ℕ, ◌+◌, ◌<◌, ◌≤◌, ◌^◌, List, length, Option, Some, None, slice_get}
 use Rattle.dps_branch.specs.declared.Side.{Side}
 use Rattle.dps_branch.specs.declared.Side.TheVariants.{Left, Right}
@@ -8,11 +8,13 @@ use Rattle.dps_terms.specs.Tree.{Tree, Trees, leaf, app, none, more}
 use Rattle.dps_terms.specs.Signature.{Signature, Shape, shapes}
 use Rattle.dps_terms.specs.Kinds.{IsOver, IsSourceTerm}
 use Rattle.dps_theory.specs.Theory.{Rule, Theory, HasRule, IsAccepted, HasPlainRules}
+use Rattle.dps_process.specs.Models.{Model}
 use Rattle.dps_process.specs.Process.{Process, IsClosedProcess, EachTerm, EachChannel, EachBinder, size, term_sum}
 
 pub record Problem : Type 0 where
   pub signature : Signature
   pub theory : Theory
+  pub model : Model
   pub left : Process
   pub right : Process
 

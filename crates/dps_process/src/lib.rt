@@ -1,24 +1,25 @@
 //! Processes, problems, steps, traces and trace equivalence, as contracts speak of them.
 //!
-//! The definitions stand in `specs/`: `Process` and `Problem`, `Steps` (configurations and their labelled steps),
-//! `Traces` (traces, equivalence, attacks) and `Lawful` (what runs keep). Their laws are the contracts of `laws`.
-//! `examples` has small processes that are equivalent or not, and `runs` has small processes with labels that are a
-//! trace or not.
+//! The definitions stand in `specs/`: `Process` and `Problem`, `Models` and `Steps` (configurations and their labelled steps),
+//! `Traces` (traces, equivalence, attacks) and `Lawful` (what runs keep). Their laws are the contracts of `laws` and `silence`.
 #![tactic(auto)]
 
 mod binders;
 mod checking;
 mod closing;
 mod comparing;
-pub mod examples;
+mod label;
 pub mod laws;
+mod model;
 mod problem;
 mod process;
-pub mod runs;
+pub mod silence;
 mod substitution;
 #[cfg(test)]
 mod tests;
 
+pub use label::Label;
+pub use model::CommModel;
 pub use problem::Problem;
 pub use process::{Process, ProcessView};
 
@@ -26,6 +27,7 @@ pub use process::{Process, ProcessView};
 pub fn are_shared() {
     is_shared::<Process>();
     is_shared::<Problem>();
+    is_shared::<Label>();
 }
 
 fn is_shared<T: Send + Sync>() {}

@@ -1,21 +1,23 @@
 //! Problems as values.
-ghost use Rattle.std.specs.Prelude.{◌≡◌, ◌<◌, ◌↔◌, length, IsTrue, IsSome, IfSome};
+ghost use Rattle.std.specs.Prelude.{◌≡◌, ◌↔◌, IsTrue, IsSome, IfSome};
 ghost use Rattle.dps_terms.specs.Signature.{IsPrivate};
 ghost use Rattle.dps_process.specs.Problem.{side_of, IsLawful, IsLawfulTheory, HasHighBinders};
 ghost use Rattle.dps_process.specs.Kept.{IsKept};
+ghost use Rattle.dps_process.specs.Models.{MayMeet, model_of};
 
-use crate::Process;
+use crate::{CommModel, Process};
 use dps_branch::Side;
 use dps_terms::Signature;
 use dps_theory::Theory;
 use std::marker::Model;
 
-/// Two processes over a signature and a theory. A file may mean each problem that is made, and each bound variable has
-/// a number of at least 2^63.
+/// Two processes over a signature and a theory, in a model of communication. A file may mean each problem that is made,
+/// and each bound variable has a number of at least 2^63.
 #[derive(Drop)]
 pub struct Problem {
     signature: Signature,
     theory: Theory,
+    model: CommModel,
     left: Process,
     right: Process,
 }
@@ -23,14 +25,15 @@ pub struct Problem {
 impl Model for Problem {
     ghost use Rattle.dps_process.specs.Problem.{Problem};
     ghost use Rattle.dps_process.specs.Kept.{problem_code, IsKept};
+    ghost use Rattle.dps_process.specs.Models.{model_of};
 
     ghost Value = { Problem };
 
     ghost coded = { problem_code };
 
-    ghost view = { λ a. record { signature = a.signature; theory = a.theory; left = a.left; right = a.right } };
+    ghost view = { λ a. record { signature = a.signature; theory = a.theory; model = model_of a.model; left = a.left; right = a.right } };
 
-    ghost invariant = { λ a. IsKept (record { signature = a.signature; theory = a.theory; left = a.left; right = a.right }) };
+    ghost invariant = { λ a. IsKept (record { signature = a.signature; theory = a.theory; model = model_of a.model; left = a.left; right = a.right }) };
 }
 
 /// The look-ups take no memory.
@@ -40,14 +43,21 @@ impl Problem {
     /// A file may mean it: the theory is accepted and over just the symbols of the signature, its rules hold declared
     /// names and variables alone, and each side is closed, over the signature, with declared channels, of at most 2^20
     /// nodes and 65,536 destructors. Each bound variable has a number of at least 2^63.
-    pub fn new(signature: Signature, theory: Theory, left: Process, right: Process) -> Problem
-        requires lawful { IsLawful (record { signature = signature; theory = theory; left = left; right = right }) }
-        requires binders { HasHighBinders (record { signature = signature; theory = theory; left = left; right = right }) }
-        ensures { result ≡ record { signature = signature; theory = theory; left = left; right = right } }
+    pub fn new(
+        signature: Signature,
+        theory: Theory,
+        model: CommModel,
+        left: Process,
+        right: Process,
+    ) -> Problem
+        requires lawful { IsLawful (record { signature = signature; theory = theory; model = model_of model; left = left; right = right }) }
+        requires binders { HasHighBinders (record { signature = signature; theory = theory; model = model_of model; left = left; right = right }) }
+        ensures { result ≡ record { signature = signature; theory = theory; model = model_of model; left = left; right = right } }
     {
         Problem {
             signature,
             theory,
+            model,
             left,
             right,
         }
@@ -58,19 +68,20 @@ impl Problem {
     pub fn check(
         signature: Signature,
         theory: Theory,
+        model: CommModel,
         left: Process,
         right: Process,
     ) -> Option<Problem>
         requires { IsLawfulTheory signature theory }
-        ensures made { IfSome result (λ problem. problem ≡ record { signature = signature; theory = theory; left = left; right = right }) }
-        ensures meant { IsSome result ↔ IsKept (record { signature = signature; theory = theory; left = left; right = right }) }
+        ensures made { IfSome result (λ problem. problem ≡ record { signature = signature; theory = theory; model = model_of model; left = left; right = right }) }
+        ensures meant { IsSome result ↔ IsKept (record { signature = signature; theory = theory; model = model_of model; left = left; right = right }) }
     {
         if left.is_lawful(&signature)
             && right.is_lawful(&signature)
             && left.has_high_binders()
             && right.has_high_binders()
         {
-            return Some(Problem::new(signature, theory, left, right));
+            return Some(Problem::new(signature, theory, model, left, right));
         }
         None
     }
@@ -91,6 +102,13 @@ impl Problem {
         &self.theory
     }
 
+    /// The model of communication.
+    pub fn model(&self) -> CommModel
+        ensures { model_of result ≡ self.now.model }
+    {
+        self.model
+    }
+
     /// The process of a side.
     pub fn side(&self, side: Side) -> &Process
         ensures process { result.now ≡ side_of self.now side }
@@ -103,12 +121,30 @@ impl Problem {
         }
     }
 
-    /// Whether the attacker does not have the channel, so that parts of a process communicate on it unseen. There has to
-    /// be a name of this number.
+    /// Whether parts may communicate unseen on the channel: on a private one, and in the classic model on every one.
+    pub fn may_meet(&self, channel: u32) -> bool
+        ensures { IsTrue result ↔ MayMeet self.now.model self.now.signature channel }
+    {
+        match self.model {
+            CommModel::Private => is_private_name(&self.signature, channel),
+            CommModel::Classic => true,
+        }
+    }
+
+    /// Whether the channel is a declared name that the attacker does not have.
     pub fn is_private(&self, channel: u32) -> bool
-        requires { channel < length self.now.signature.names }
         ensures { IsTrue result ↔ IsPrivate self.now.signature channel }
     {
-        self.signature.is_private(channel)
+        is_private_name(&self.signature, channel)
     }
+}
+
+/// Whether a name of this number is declared, and private.
+fn is_private_name(signature: &Signature, number: u32) -> bool
+    ensures { IsTrue result ↔ IsPrivate signature.now number }
+{
+    if number >= signature.name_count() {
+        return false;
+    }
+    signature.is_private(number)
 }

@@ -1,5 +1,5 @@
 //! A table of processes, one on a long path, and a problem.
-use crate::{Problem, Process};
+use crate::{CommModel, Problem, Process};
 use dps_terms::{NoMemory, Signature, Subst, Sym, Term, is_identifier};
 use dps_theory::Theory;
 use std::alloc::Global;
@@ -128,13 +128,18 @@ fn against_nil(alloc: Global, signature: Signature) -> Result<Option<Problem>, N
     let variable = 1 << 63;
     let out = Process::output(alloc, 0, Term::var(alloc, variable)?, Process::nil())?;
     let right = Process::input(alloc, 0, variable, out)?;
-    Ok(Problem::check(signature, theory, Process::nil(), right))
+    Ok(Problem::check(signature, theory, CommModel::Private, Process::nil(), right))
 }
 
-/// Whether the problem was made, over one name, which is private.
+/// Whether the problem was made, in the private model, over one name, which is private.
 fn has_private_name(made: Result<Option<Problem>, NoMemory>) -> bool {
     match made {
-        Ok(Some(problem)) => problem.signature().name_count() == 1 && problem.is_private(0),
+        Ok(Some(problem)) => {
+            problem.model() == CommModel::Private
+                && problem.is_private(0)
+                && problem.may_meet(0)
+                && !problem.may_meet(1)
+        }
         _ => false,
     }
 }

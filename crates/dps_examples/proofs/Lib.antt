@@ -1,0 +1,12 @@
+mod TakenBranches
+mod Outputs
+mod Attacks
+mod Lawful
+mod HiddenNames
+mod HiddenTest
+mod Counting
+mod OneRun
+mod NoRun
+mod Exchanges
+mod UnseenFirst
+mod OneByOne
