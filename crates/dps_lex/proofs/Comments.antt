@@ -1,5 +1,6 @@
 -- The loop over a comment.
-use Rattle.std.proofs.Common.{◌≡◌, ℕ, ◌+◌, ◌-◌, ◌<◌, ◌≤◌, zero, suc, true, false, List, [], ◌∷◌, ◌++◌, length, get_or, take, drop, refl, ap, sym, ◌∙◌, subst, arith, length-append, length-drop, add-one, slice_range}
+use Rattle.std.proofs.Common.{◌≡◌, ℕ, ◌+◌, ◌-◌, ◌<◌, ◌≤◌, zero, suc, true, false, List, [], ◌∷◌, ◌++◌}
+use Rattle.std.proofs.Common.{length, get_or, take, drop, refl, ap, sym, ◌∙◌, subst, arith, length-append, length-drop, add-one, slice_range}
 use Rattle.std.proofs.lemmas.List.{drop_more, take_at, drop-drop}
 use Rattle.std.proofs.lemmas.Bool.Decides.{nat_tests}
 use Rattle.dps_lex.specs.CommentText.{opening, begins_mark, IsInside, IsComment}
@@ -22,7 +23,9 @@ two_more : (bytes : List ℕ) (at first second : ℕ) → at + 1 < length bytes 
 two_more bytes at first second h f s =
     one_more bytes at first (omega arith) f ∙ ap (λ z. first ∷ z) (one_more bytes (at + 1) second h s)
 
-pub nested_other : (bytes : List ℕ) (start at depth first second : ℕ) → at + 1 < length bytes → first ≡ get_or bytes at 0 → second ≡ get_or bytes (at + 1) 0 → begins_mark (first ∷ second ∷ []) ≡ false → IsNested bytes start at depth → IsNested bytes start (at + 1) depth
+pub nested_other :
+    (bytes : List ℕ) (start at depth first second : ℕ) → at + 1 < length bytes → first ≡ get_or bytes at 0 → second ≡ get_or bytes (at + 1) 0
+    → begins_mark (first ∷ second ∷ []) ≡ false → IsNested bytes start at depth → IsNested bytes start (at + 1) depth
 nested_other bytes start at depth first second h f s m n =
     let rest = drop (at + 1 + 1) bytes in
     let whole = two_more bytes at first second h f s in
@@ -35,14 +38,20 @@ nested_other bytes start at depth first second h f s m n =
 plain_no_mark : (a b : ℕ) → is_plain a ≡ true → begins_mark (a ∷ b ∷ []) ≡ false
 plain_no_mark a b p = grind (arith, nat_tests)
 
-pub nested_plain : (bytes : List ℕ) (start at depth first : ℕ) → at + 1 < length bytes → first ≡ get_or bytes at 0 → is_plain first ≡ true → IsNested bytes start at depth → IsNested bytes start (at + 1) depth
+pub nested_plain :
+    (bytes : List ℕ) (start at depth first : ℕ) → at + 1 < length bytes → first ≡ get_or bytes at 0 → is_plain first ≡ true → IsNested bytes start at depth
+    → IsNested bytes start (at + 1) depth
 nested_plain bytes start at depth first h f p n =
     nested_other bytes start at depth first (get_or bytes (at + 1) 0) h f refl (plain_no_mark first (get_or bytes (at + 1) 0) p) n
 
-two_marks : (bytes : List ℕ) (at first second a b : ℕ) → at + 1 < length bytes → first ≡ get_or bytes at 0 → second ≡ get_or bytes (at + 1) 0 → first ≡ a → second ≡ b → drop at bytes ≡ a ∷ b ∷ drop (at + 1 + 1) bytes
+two_marks :
+    (bytes : List ℕ) (at first second a b : ℕ) → at + 1 < length bytes → first ≡ get_or bytes at 0 → second ≡ get_or bytes (at + 1) 0 → first ≡ a → second ≡ b
+    → drop at bytes ≡ a ∷ b ∷ drop (at + 1 + 1) bytes
 two_marks bytes at first second a b h f s e g = two_more bytes at a b h (sym e ∙ f) (sym g ∙ s)
 
-pub nested_open : (bytes : List ℕ) (start at depth first second : ℕ) → at + 1 < length bytes → first ≡ get_or bytes at 0 → second ≡ get_or bytes (at + 1) 0 → first ≡ 40 → second ≡ 42 → IsNested bytes start at depth → IsNested bytes start (at + 1 + 1) (depth + 1)
+pub nested_open :
+    (bytes : List ℕ) (start at depth first second : ℕ) → at + 1 < length bytes → first ≡ get_or bytes at 0 → second ≡ get_or bytes (at + 1) 0 → first ≡ 40
+    → second ≡ 42 → IsNested bytes start at depth → IsNested bytes start (at + 1 + 1) (depth + 1)
 nested_open bytes start at depth first second h f s a b n =
     let rest = drop (at + 1 + 1) bytes in
     let whole = two_marks bytes at first second 40 42 h f s a b in
@@ -51,7 +60,9 @@ nested_open bytes start at depth first second h f s a b n =
       back = λ after c. subst (λ k. Closes (suc k) rest after) (sym (add-one depth)) (open_back rest after (subst (λ z. Closes (suc depth) z after) whole (n.back after c)));
     }
 
-pub nested_close : (bytes : List ℕ) (start at depth first second : ℕ) → at + 1 < length bytes → first ≡ get_or bytes at 0 → second ≡ get_or bytes (at + 1) 0 → first ≡ 42 → second ≡ 41 → 0 < depth → IsNested bytes start at depth → IsNested bytes start (at + 1 + 1) (depth - 1)
+pub nested_close :
+    (bytes : List ℕ) (start at depth first second : ℕ) → at + 1 < length bytes → first ≡ get_or bytes at 0 → second ≡ get_or bytes (at + 1) 0 → first ≡ 42
+    → second ≡ 41 → 0 < depth → IsNested bytes start at depth → IsNested bytes start (at + 1 + 1) (depth - 1)
 nested_close bytes start at depth first second h f s a b d n =
     let rest = drop (at + 1 + 1) bytes in
     let whole = two_marks bytes at first second 42 41 h f s a b in
@@ -73,7 +84,10 @@ last_of (more {inside} {between} e i (none f)) = record { inside = inside; is = 
 behind_opening : (bytes rest : List ℕ) (from : ℕ) → drop from bytes ≡ opening ++ rest → drop (from + 2) bytes ≡ rest
 behind_opening bytes rest from e = sym (drop-drop 2 from bytes) ∙ ap (λ z. drop 2 z) e
 
-pub nested_end : (bytes : List ℕ) (from at depth first second to : ℕ) → from + 2 ≤ at → at + 1 < length bytes → first ≡ get_or bytes at 0 → second ≡ get_or bytes (at + 1) 0 → first ≡ 42 → second ≡ 41 → BeginsWith opening (drop from bytes) → IsNested bytes (from + 2) at depth → depth ≡ 0 → to ≡ at + 1 + 1 → IsComment (slice_range bytes from to)
+pub nested_end :
+    (bytes : List ℕ) (from at depth first second to : ℕ) → from + 2 ≤ at → at + 1 < length bytes → first ≡ get_or bytes at 0 → second ≡ get_or bytes (at + 1) 0
+    → first ≡ 42 → second ≡ 41 → BeginsWith opening (drop from bytes) → IsNested bytes (from + 2) at depth → depth ≡ 0 → to ≡ at + 1 + 1
+    → IsComment (slice_range bytes from to)
 nested_end bytes from at depth first second to o h f s a b begins n d t =
     let rest = drop (at + 1 + 1) bytes in
     let whole = two_marks bytes at first second 42 41 h f s a b in

@@ -1,5 +1,6 @@
 -- The first lexeme of bytes.
-use Rattle.std.proofs.Common.{◌≡◌, ◌≢◌, ◌⊎◌, inl, inr, ℕ, ◌<◌, ◌≤◌, zero, suc, Bool, true, false, List, [], ◌∷◌, ◌++◌, Some, length, get_or, take, drop, refl, ap, sym, ◌∙◌, subst, arith, length-append}
+use Rattle.std.proofs.Common.{◌≡◌, ◌≢◌, ◌⊎◌, inl, inr, ℕ, ◌<◌, ◌≤◌, zero, suc, Bool, true, false, List}
+use Rattle.std.proofs.Common.{[], ◌∷◌, ◌++◌, Some, length, get_or, take, drop, refl, ap, sym, ◌∙◌, subst, arith, length-append}
 use Rattle.std.proofs.lemmas.List.{get_or_append_left, get_or-take, length-take-le, take-append-drop}
 use Rattle.std.proofs.lemmas.List.Sums.{prefix_len_passes, prefix_len_stops, prefix_len-le-length}
 use Rattle.std.proofs.lemmas.Bool.{cases_lt}
@@ -148,7 +149,9 @@ name_front bytes n some h e =
     let named = name_of (take n bytes) (omega (arith, run.long, run.some)) (ap is_letter run.first ∙ h) run.all in
     record { run = run; named = named; first = first_name bytes n run e named }
 
-pub name_token : (bytes text : List ℕ) (kind : TokenKind) (n : ℕ) → 0 < length bytes → is_letter (get_or bytes 0 0) ≡ true → n ≡ prefix_len is_name_byte bytes → n ≤ 64 → text ≡ take n bytes → IsNamed kind text → BeginsToken bytes kind n
+pub name_token :
+    (bytes text : List ℕ) (kind : TokenKind) (n : ℕ) → 0 < length bytes → is_letter (get_or bytes 0 0) ≡ true → n ≡ prefix_len is_name_byte bytes → n ≤ 64
+    → text ≡ take n bytes → IsNamed kind text → BeginsToken bytes kind n
 name_token bytes text kind n some h e short t named =
     let front = name_front bytes n some h e in
     record {
@@ -179,7 +182,9 @@ pub digits_of_front : (bytes text : List ℕ) (n : ℕ) → n ≡ prefix_len is_
 digits_of_front bytes text n e t =
     subst (λ z. AllPass is_digit z) (ap (λ m. take m bytes) (sym e) ∙ sym t) (front_passes is_digit bytes)
 
-pub number_token : (bytes text : List ℕ) (n : ℕ) → 0 < length bytes → is_digit (get_or bytes 0 0) ≡ true → n ≡ prefix_len is_digit bytes → text ≡ take n bytes → leads_with_zero text ≡ false → digits_value 10 text ≤ 1000000 → BeginsToken bytes Number n
+pub number_token :
+    (bytes text : List ℕ) (n : ℕ) → 0 < length bytes → is_digit (get_or bytes 0 0) ≡ true → n ≡ prefix_len is_digit bytes → text ≡ take n bytes
+    → leads_with_zero text ≡ false → digits_value 10 text ≤ 1000000 → BeginsToken bytes Number n
 number_token bytes text n some h e t leads small =
     let front = digits_front bytes n some h e in
     record {
@@ -189,12 +194,16 @@ number_token bytes text n some h e t leads small =
       token = (front.all, ap leads_with_zero (sym t) ∙ leads, subst (λ z. digits_value 10 z ≤ 1000000) t small);
     }
 
-pub bad_number : (bytes text : List ℕ) (n : ℕ) → 0 < length bytes → is_digit (get_or bytes 0 0) ≡ true → n ≡ prefix_len is_digit bytes → text ≡ take n bytes → leads_with_zero text ≡ true → BeginsFault BadNumber bytes
+pub bad_number :
+    (bytes text : List ℕ) (n : ℕ) → 0 < length bytes → is_digit (get_or bytes 0 0) ≡ true → n ≡ prefix_len is_digit bytes → text ≡ take n bytes
+    → leads_with_zero text ≡ true → BeginsFault BadNumber bytes
 bad_number bytes text n some h e t leads =
     let front = digits_front bytes n some h e in
     (take n bytes, front.first, (front.all, ap leads_with_zero (sym t) ∙ leads))
 
-pub large_number : (bytes text : List ℕ) (n : ℕ) → 0 < length bytes → is_digit (get_or bytes 0 0) ≡ true → n ≡ prefix_len is_digit bytes → text ≡ take n bytes → leads_with_zero text ≡ false → 1000000 < digits_value 10 text → BeginsFault LargeNumber bytes
+pub large_number :
+    (bytes text : List ℕ) (n : ℕ) → 0 < length bytes → is_digit (get_or bytes 0 0) ≡ true → n ≡ prefix_len is_digit bytes → text ≡ take n bytes
+    → leads_with_zero text ≡ false → 1000000 < digits_value 10 text → BeginsFault LargeNumber bytes
 large_number bytes text n some h e t leads large =
     let front = digits_front bytes n some h e in
     (take n bytes, front.first, (front.all, ap leads_with_zero (sym t) ∙ leads, subst (λ z. 1000000 < digits_value 10 z) t large))
@@ -286,7 +295,9 @@ sign_cases (a ∷ []) bytes b h = inl (ap (λ z. z ∷ []) (sym (ap head_of b.1)
 sign_cases (a ∷ c ∷ []) bytes b h = inr (ap starts_arrow b.1 ∙ h)
 sign_cases (a ∷ c ∷ d ∷ bs) bytes b h = false_true h
 
-pub bad_byte : (bytes : List ℕ) → 0 < length bytes → is_blank (get_or bytes 0 0) ≡ false → is_letter (get_or bytes 0 0) ≡ false → is_digit (get_or bytes 0 0) ≡ false → ¬ BeginsWith opening bytes → starts_arrow bytes ≡ false → HasNoSign (get_or bytes 0 0 ∷ []) → BeginsFault BadByte bytes
+pub bad_byte :
+    (bytes : List ℕ) → 0 < length bytes → is_blank (get_or bytes 0 0) ≡ false → is_letter (get_or bytes 0 0) ≡ false → is_digit (get_or bytes 0 0) ≡ false
+    → ¬ BeginsWith opening bytes → starts_arrow bytes ≡ false → HasNoSign (get_or bytes 0 0 ∷ []) → BeginsFault BadByte bytes
 bad_byte bytes some w l d no_comment no_arrow no_sign =
     let here = head_is bytes some in
     let third : class (head_of bytes) ≡ 3 = ap class here ∙ other_class (get_or bytes 0 0) l d w in

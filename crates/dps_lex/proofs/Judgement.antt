@@ -1,5 +1,6 @@
 -- A lexeme is one token or one fault.
-use Rattle.std.proofs.Common.{◌≡◌, ◌≢◌, ◌⊎◌, inl, inr, ℕ, ◌<◌, ◌≤◌, Bool, true, false, ◌==◌, if◌then◌else◌, nat_lt, List, [], ◌∷◌, Option, Some, None, Result, Ok, Err, unwrap_or, length, refl, ap, sym, ◌∙◌, arith}
+use Rattle.std.proofs.Common.{◌≡◌, ◌≢◌, ◌⊎◌, inl, inr, ℕ, ◌<◌, ◌≤◌, Bool, true, false, ◌==◌, if◌then◌else◌, nat_lt, List}
+use Rattle.std.proofs.Common.{[], ◌∷◌, Option, Some, None, Result, Ok, Err, unwrap_or, length, refl, ap, sym, ◌∙◌, arith}
 use Rattle.std.proofs.lemmas.Bool.Decides.{nat_tests}
 use Rattle.std.proofs.lemmas.Slice.Eq.{bytes_eq-Decides}
 use Rattle.std.specs.Str.{bytes_eq}
@@ -7,7 +8,8 @@ use Rattle.std.specs.Str.Parse.{digits_value}
 use Rattle.dps_lex.specs.Spelling.{keyword, sign}
 use Rattle.dps_lex.specs.LexemeText.{IsName, IsDigits, IsToken, IsFaulty, leads_with_zero}
 use Rattle.dps_lex.specs.declared.vocabulary.TokenKind.{TokenKind}
-use Rattle.dps_lex.specs.declared.vocabulary.TokenKind.TheVariants.{Free, Const, Fun, Reduc, Let, In, Out, If, Then, Else, New, Query, TraceEquiv, Private, OpenParenthesis, CloseParenthesis, OpenBracket, CloseBracket, Comma, Semicolon, Dot, Slash, Equals, Bar, Plus, Bang, Caret, Arrow, Identifier, Number}
+use Rattle.dps_lex.specs.declared.vocabulary.TokenKind.TheVariants.{Free, Const, Fun, Reduc, Let, In, Out, If, Then, Else, New, Query, TraceEquiv, Private, OpenParenthesis}
+use Rattle.dps_lex.specs.declared.vocabulary.TokenKind.TheVariants.{CloseParenthesis, OpenBracket, CloseBracket, Comma, Semicolon, Dot, Slash, Equals, Bar, Plus, Bang, Caret, Arrow, Identifier, Number}
 use Rattle.dps_lex.specs.declared.vocabulary.FaultKind.{FaultKind}
 use Rattle.dps_lex.specs.declared.vocabulary.FaultKind.TheVariants.{LongName, BadNumber, LargeNumber}
 use Rattle.dps_lex.proofs.Nesting.{head_of, false_true}
@@ -15,7 +17,9 @@ use Rattle.dps_lex.proofs.Classes.{class, HasClass, name_class, digits_class, si
 
 -- the kinds with a fixed text
 abbrev pub fixed_kinds : List TokenKind
-fixed_kinds = Free ∷ Const ∷ Fun ∷ Reduc ∷ Let ∷ In ∷ Out ∷ If ∷ Then ∷ Else ∷ New ∷ Query ∷ TraceEquiv ∷ Private ∷ OpenParenthesis ∷ CloseParenthesis ∷ OpenBracket ∷ CloseBracket ∷ Comma ∷ Semicolon ∷ Dot ∷ Slash ∷ Equals ∷ Bar ∷ Plus ∷ Bang ∷ Caret ∷ Arrow ∷ []
+fixed_kinds =
+    Free ∷ Const ∷ Fun ∷ Reduc ∷ Let ∷ In ∷ Out ∷ If ∷ Then ∷ Else ∷ New ∷ Query ∷ TraceEquiv ∷ Private ∷ OpenParenthesis ∷ CloseParenthesis ∷ OpenBracket ∷ CloseBracket ∷ Comma ∷ Semicolon ∷
+    Dot ∷ Slash ∷ Equals ∷ Bar ∷ Plus ∷ Bang ∷ Caret ∷ Arrow ∷ []
 
 abbrev pub is_spelled : Option (List ℕ) → List ℕ → Bool
 is_spelled None text = false
@@ -128,7 +132,8 @@ short_name text kind l e =
 verdict_is : {text : List ℕ} {r : Result TokenKind FaultKind} → IsJudged text r → verdict text ≡ r
 verdict_is (identifier {text} n l h) = of_name text (name_class text n) ∙ short_name text None l (none_found fixed_kinds text h)
 verdict_is (number {text} d z v) =
-    of_digits text (digits_class text d) ∙ ap (λ b. if b then Err BadNumber else (if nat_lt 1000000 (digits_value 10 text) then Err LargeNumber else Ok Number)) z ∙ ap (λ b. if b then Err LargeNumber else Ok Number) (not_above 1000000 (digits_value 10 text) v)
+    of_digits text (digits_class text d) ∙ ap (λ b. if b then Err BadNumber else (if nat_lt 1000000 (digits_value 10 text) then Err LargeNumber else Ok Number)) z
+    ∙ ap (λ b. if b then Err LargeNumber else Ok Number) (not_above 1000000 (digits_value 10 text) v)
 verdict_is (word {text} {kind} e) =
     let test = keyword_test kind text e in
     of_name text (keyword_class text test) ∙ short_name text (Some kind) (keyword_short text test) (keyword_found kind text e)
@@ -139,7 +144,8 @@ verdict_is (long {text} n l) =
 verdict_is (bad {text} d z) =
     of_digits text (digits_class text d) ∙ ap (λ b. if b then Err BadNumber else (if nat_lt 1000000 (digits_value 10 text) then Err LargeNumber else Ok Number)) z
 verdict_is (large {text} d z v) =
-    of_digits text (digits_class text d) ∙ ap (λ b. if b then Err BadNumber else (if nat_lt 1000000 (digits_value 10 text) then Err LargeNumber else Ok Number)) z ∙ ap (λ b. if b then Err LargeNumber else Ok Number) (above 1000000 (digits_value 10 text) v)
+    of_digits text (digits_class text d) ∙ ap (λ b. if b then Err BadNumber else (if nat_lt 1000000 (digits_value 10 text) then Err LargeNumber else Ok Number)) z
+    ∙ ap (λ b. if b then Err LargeNumber else Ok Number) (above 1000000 (digits_value 10 text) v)
 
 pub judged_same : {text : List ℕ} {r s : Result TokenKind FaultKind} → IsJudged text r → IsJudged text s → r ≡ s
 judged_same j k = sym (verdict_is j) ∙ verdict_is k

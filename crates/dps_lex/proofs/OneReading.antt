@@ -63,7 +63,9 @@ first_same {text} {twin} {rest} f g =
 -- the ways to begin with a fault
 data IsFaultOf : List ℕ → FaultKind → Type 0 where
   opened : {bytes : List ℕ} → BeginsWith opening bytes → ((text : List ℕ) → BeginsWith text bytes → ¬ IsComment text) → IsFaultOf bytes OpenComment
-  stray : {bytes : List ℕ} → bytes ≢ [] → ¬ BeginsWith opening bytes → ((text : List ℕ) → BeginsWith text bytes → ¬ IsGap text) → ((text : List ℕ) → BeginsWith text bytes → ¬ IsLexeme text) → IsFaultOf bytes BadByte
+  stray :
+      {bytes : List ℕ} → bytes ≢ [] → ¬ BeginsWith opening bytes → ((text : List ℕ) → BeginsWith text bytes → ¬ IsGap text)
+      → ((text : List ℕ) → BeginsWith text bytes → ¬ IsLexeme text) → IsFaultOf bytes BadByte
   faulty : {bytes text : List ℕ} {kind : FaultKind} → IsFirstLexeme text bytes → IsFaulty kind text → IsFaultOf bytes kind
 
 fault_of : (kind : FaultKind) (bytes : List ℕ) → BeginsFault kind bytes → IsFaultOf bytes kind
@@ -115,7 +117,9 @@ no_fault_of_nothing (opened o n) = omega (arith, ap length o.1)
 no_fault_of_nothing (stray s p m l) = s refl
 no_fault_of_nothing (faulty {text} f h) = nothing_begins text f.begins.0 f.begins.1 (lexeme_long f.lexeme)
 
-moved : {text after twin behind : List ℕ} {tokens : List Token} {stop : Option Fault} (before : List ℕ) → text ≡ twin → after ≡ behind → Reads (before ++ twin) behind tokens stop → Reads (before ++ text) after tokens stop
+moved :
+    {text after twin behind : List ℕ} {tokens : List Token} {stop : Option Fault} (before : List ℕ) → text ≡ twin → after ≡ behind
+    → Reads (before ++ twin) behind tokens stop → Reads (before ++ text) after tokens stop
 moved {text} {behind} {tokens} {stop} before t a r =
     subst (λ z. Reads (before ++ text) z tokens stop) (sym a) (subst (λ z. Reads (before ++ z) behind tokens stop) (sym t) r)
 

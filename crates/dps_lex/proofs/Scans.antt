@@ -1,5 +1,6 @@
 -- The scan of a text.
-use Rattle.std.proofs.Common.{◌≡◌, ℕ, ◌+◌, ◌-◌, ◌<◌, ◌≤◌, zero, suc, Bool, true, ◌==◌, not, List, [], ◌∷◌, ◌++◌, Option, Some, None, length, get_or, take, drop, reverse, refl, ap, sym, ◌∙◌, subst, arith, append_assoc, length-drop, slice_range, cond}
+use Rattle.std.proofs.Common.{◌≡◌, ℕ, ◌+◌, ◌-◌, ◌<◌, ◌≤◌, zero, suc, Bool, true, ◌==◌, not, List, [], ◌∷◌, ◌++◌, Option}
+use Rattle.std.proofs.Common.{Some, None, length, get_or, take, drop, reverse, refl, ap, sym, ◌∙◌, subst, arith, append_assoc, length-drop, slice_range, cond}
 use Rattle.std.proofs.lemmas.List.{append-nil, drop_more, drop-drop, take-take, drop-take, take-append-drop, length-take-le, reverse-append, drop_all}
 use Rattle.std.proofs.lemmas.List.Sums.{sum_by_push}
 use Rattle.std.proofs.lemmas.Bool.Decides.{nat_tests}
@@ -88,7 +89,9 @@ line_append before [] all = ap line_behind (append-nil before)
 line_append before (b ∷ bs) all =
     sym (ap line_behind (append_assoc before (b ∷ []) bs)) ∙ line_append (before ++ b ∷ []) bs (λ k d l. all (suc k) d (omega arith)) ∙ line_push before b (all 0 0 (omega arith))
 
-pub past_token : (bytes : List ℕ) (kind : TokenKind) (n : ℕ) (here there : Position) → IsPosition bytes here → BeginsToken (drop here.at bytes) kind n → there.at ≡ here.at + n → there.line ≡ here.line → there.line_start ≡ here.line_start → IsPosition bytes there
+pub past_token :
+    (bytes : List ℕ) (kind : TokenKind) (n : ℕ) (here there : Position) → IsPosition bytes here → BeginsToken (drop here.at bytes) kind n
+    → there.at ≡ here.at + n → there.line ≡ here.line → there.line_start ≡ here.line_start → IsPosition bytes there
 past_token bytes kind n here there p t a l s =
     let before = take here.at bytes in
     let text = take n (drop here.at bytes) in
@@ -120,9 +123,13 @@ scanned_gap bytes at to tokens g s =
 token_of_parts : (one two : Token) → one.kind ≡ two.kind → one.start ≡ two.start → one.end ≡ two.end → one.line ≡ two.line → one.column ≡ two.column → one ≡ two
 token_of_parts one two k s e l c =
     let made : TokenKind → ℕ → ℕ → ℕ → ℕ → Token = λ kind start end line column. record { kind = kind; start = start; end = end; line = line; column = column } in
-    ap (λ z. made z one.start one.end one.line one.column) k ∙ ap (λ z. made two.kind z one.end one.line one.column) s ∙ ap (λ z. made two.kind two.start z one.line one.column) e ∙ ap (λ z. made two.kind two.start two.end z one.column) l ∙ ap (λ z. made two.kind two.start two.end two.line z) c
+    ap (λ z. made z one.start one.end one.line one.column) k ∙ ap (λ z. made two.kind z one.end one.line one.column) s ∙ ap (λ z. made two.kind two.start z one.line one.column) e
+    ∙ ap (λ z. made two.kind two.start two.end z one.column) l ∙ ap (λ z. made two.kind two.start two.end two.line z) c
 
-pub scanned_token : (bytes : List ℕ) (here : Position) (kind : TokenKind) (n to : ℕ) (one : Token) (tokens after : List Token) → IsPosition bytes here → BeginsToken (drop here.at bytes) kind n → one.kind ≡ kind → one.start ≡ here.at → one.end ≡ here.at + n → one.line ≡ here.line → here.line_start + one.column ≡ here.at + 1 → to ≡ here.at + n → after ≡ tokens ++ one ∷ [] → IsScanned bytes here.at tokens → IsScanned bytes to after
+pub scanned_token :
+    (bytes : List ℕ) (here : Position) (kind : TokenKind) (n to : ℕ) (one : Token) (tokens after : List Token) → IsPosition bytes here
+    → BeginsToken (drop here.at bytes) kind n → one.kind ≡ kind → one.start ≡ here.at → one.end ≡ here.at + n → one.line ≡ here.line
+    → here.line_start + one.column ≡ here.at + 1 → to ≡ here.at + n → after ≡ tokens ++ one ∷ [] → IsScanned bytes here.at tokens → IsScanned bytes to after
 scanned_token bytes here kind n to one tokens after p t k a b l c sum e s =
     let before = take here.at bytes in
     let text = take n (drop here.at bytes) in
@@ -138,12 +145,15 @@ scanned_token bytes here kind n to one tokens after p t k a b l c sum e s =
           (s.on (token_at before kind text ∷ more) stop (token rest t.first t.token (subst (λ z. Reads z (drop to bytes) more stop) front r)));
     }
 
-pub scanned_fault : (bytes : List ℕ) (here : Position) (kind : FaultKind) (one : Fault) (tokens : List Token) → IsPosition bytes here → BeginsFault kind (drop here.at bytes) → one.kind ≡ kind → one.line ≡ here.line → here.line_start + one.column ≡ here.at + 1 → IsScanned bytes here.at tokens → IsReading bytes tokens (Some one)
+pub scanned_fault :
+    (bytes : List ℕ) (here : Position) (kind : FaultKind) (one : Fault) (tokens : List Token) → IsPosition bytes here → BeginsFault kind (drop here.at bytes)
+    → one.kind ≡ kind → one.line ≡ here.line → here.line_start + one.column ≡ here.at + 1 → IsScanned bytes here.at tokens → IsReading bytes tokens (Some one)
 scanned_fault bytes here kind one tokens p f k l c s =
     let before = take here.at bytes in
     let made : ℕ → ℕ → FaultKind → Fault = λ line column kind. record { line = line; column = column; kind = kind } in
     let place : one.column ≡ column_behind before = omega (arith, c, p.column) in
-    let same : one ≡ fault_at before kind = ap (λ z. made z one.column one.kind) (l ∙ p.line) ∙ ap (λ z. made (line_behind before) z one.kind) place ∙ ap (λ z. made (line_behind before) (column_behind before) z) k in
+    let same : one ≡ fault_at before kind = ap (λ z. made z one.column one.kind) (l ∙ p.line) ∙ ap (λ z. made (line_behind before) z one.kind) place
+    ∙ ap (λ z. made (line_behind before) (column_behind before) z) k in
     subst (λ z. Reads [] bytes tokens (Some z)) (sym same) (subst (λ ts. Reads [] bytes ts (Some (fault_at before kind))) (append-nil tokens) (s.on [] (Some (fault_at before kind)) (fault f)))
 
 pub scanned_end : (bytes : List ℕ) (at : ℕ) (tokens : List Token) → length bytes ≤ at → IsScanned bytes at tokens → IsReading bytes tokens None

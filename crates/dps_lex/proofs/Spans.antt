@@ -36,7 +36,8 @@ spelled (token {before} {rest} {text} {after} {kind} {tokens} e f t r) =
     let whole : before ++ text ++ after ≡ before ++ rest = append_assoc before text after ∙ ap (λ z. before ++ z) (sym e) in
     let len : length before + length text - length before ≡ length text = omega arith in
     let slice : slice_range (before ++ rest) (length before) (length before + length text) ≡ text =
-    ap (λ z. take (length before + length text - length before) z) (drop_at before rest (length before) refl) ∙ ap (λ n. take n rest) len ∙ ap (take (length text)) e ∙ take_at text after (length text) refl in
+    ap (λ z. take (length before + length text - length before) z) (drop_at before rest (length before) refl) ∙ ap (λ n. take n rest) len ∙ ap (take (length text)) e
+    ∙ take_at text after (length text) refl in
     All-cons (IsSpelled (before ++ rest)) (token_at before kind text) tokens (subst (λ z. IsToken kind z) (sym slice) t)
     (subst (λ z. All (IsSpelled z) tokens) whole (spelled r))
 spelled (fault f) = λ k d l. absurd (omega arith)

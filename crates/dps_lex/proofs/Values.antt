@@ -11,9 +11,6 @@ use Rattle.dps_lex.specs.Alphabet.{is_digit}
 pub digit_value_of : (b : ℕ) → is_digit b ≡ true → digit_value b ≡ b - 48
 digit_value_of b h = grind (arith, nat_tests)
 
-pub digit_is_low : (b : ℕ) → is_digit b ≡ true → (48 ≤ b) × (b ≤ 57)
-digit_is_low b h = grind (arith, nat_tests)
-
 -- more digits are no smaller number
 pub after_grows : (n : ℕ) (bs : List ℕ) → n ≤ digits_value_after 10 n bs
 after_grows n [] = omega arith
@@ -28,7 +25,9 @@ pub front_is_smaller : (i : ℕ) (bs : List ℕ) → digits_value 10 (take i bs)
 front_is_smaller i bs = after_take 0 i bs
 
 -- one more digit
-pub next_value : (bs : List ℕ) (i value digit : ℕ) → AllPass is_digit bs → i < length bs → value ≡ digits_value 10 (take i bs) → digit ≡ get_or bs i 0 - 48 → value * 10 + digit ≡ digits_value 10 (take (i + 1) bs)
+pub next_value :
+    (bs : List ℕ) (i value digit : ℕ) → AllPass is_digit bs → i < length bs → value ≡ digits_value 10 (take i bs) → digit ≡ get_or bs i 0 - 48
+    → value * 10 + digit ≡ digits_value 10 (take (i + 1) bs)
 next_value bs i value digit all h v d = omega (arith, digits_value_more 10 bs i h, digit_value_of (get_or bs i 0) (all i 0 h))
 
 pub above_by_front : (bs : List ℕ) (i value : ℕ) → value ≡ digits_value 10 (take i bs) → 1000000 < value → 1000000 < digits_value 10 bs

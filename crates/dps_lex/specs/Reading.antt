@@ -54,7 +54,9 @@ fault_at before kind = record { line = line_behind before; column = column_behin
 pub data Reads : List ℕ → List ℕ → List Token → Option Fault → Type 0 where
   end : {before : List ℕ} → Reads before [] [] None
   gap : {before rest text after : List ℕ} {tokens : List Token} {stop : Option Fault} → rest ≡ text ++ after → IsGap text → Reads (before ++ text) after tokens stop → Reads before rest tokens stop
-  token : {before rest text after : List ℕ} {kind : TokenKind} {tokens : List Token} {stop : Option Fault} → rest ≡ text ++ after → IsFirstLexeme text rest → IsToken kind text → Reads (before ++ text) after tokens stop → Reads before rest (token_at before kind text ∷ tokens) stop
+  token :
+      {before rest text after : List ℕ} {kind : TokenKind} {tokens : List Token} {stop : Option Fault} → rest ≡ text ++ after → IsFirstLexeme text rest
+      → IsToken kind text → Reads (before ++ text) after tokens stop → Reads before rest (token_at before kind text ∷ tokens) stop
   fault : {before rest : List ℕ} {kind : FaultKind} → BeginsFault kind rest → Reads before rest [] (Some (fault_at before kind))
 
 -- The text holds these tokens and no others, up to its end, or up to this fault, its first.

@@ -1,7 +1,8 @@
 -- The fixed texts: keywords, signs, and the printed words of a fault.
 use Rattle.std.specs.Prelude.{ℕ, List, Option, Some, None, codes}
 use Rattle.dps_lex.specs.declared.vocabulary.TokenKind.{TokenKind}
-use Rattle.dps_lex.specs.declared.vocabulary.TokenKind.TheVariants.{Free, Const, Fun, Reduc, Let, In, Out, If, Then, Else, New, Query, TraceEquiv, Private, OpenParenthesis, CloseParenthesis, OpenBracket, CloseBracket, Comma, Semicolon, Dot, Slash, Equals, Bar, Plus, Bang, Caret, Arrow}
+use Rattle.dps_lex.specs.declared.vocabulary.TokenKind.TheVariants.{Free, Const, Fun, Reduc, Let, In, Out, If, Then, Else, New, Query, TraceEquiv, Private}
+use Rattle.dps_lex.specs.declared.vocabulary.TokenKind.TheVariants.{OpenParenthesis, CloseParenthesis, OpenBracket, CloseBracket, Comma, Semicolon, Dot, Slash, Equals, Bar, Plus, Bang, Caret, Arrow}
 use Rattle.dps_lex.specs.declared.vocabulary.FaultKind.{FaultKind}
 use Rattle.dps_lex.specs.declared.vocabulary.FaultKind.TheVariants.{BadByte, OpenComment, LongName, BadNumber, LargeNumber, UnexpectedToken, UnexpectedEnd, TooDeep}
 

@@ -14,7 +14,9 @@ pieces-token [] l rest = refl
 pieces-token (Token k ∷ ps) l rest = ap (λ x. one k ∷ x) (pieces-token ps l rest)
 pieces-token (Inner t ∷ ps) l rest = ap (λ x. begin t.production ∷ pieces t.parts (end t.production ∷ x)) (pieces-token ps l rest)
 
-pieces-inner : (ps : List Part) (t : Derivation) (rest : List Piece) → pieces (parts_of (ps ++ Inner t ∷ [])) rest ≡ pieces (parts_of ps) (begin t.production ∷ pieces t.parts (end t.production ∷ rest))
+pieces-inner :
+    (ps : List Part) (t : Derivation) (rest : List Piece)
+    → pieces (parts_of (ps ++ Inner t ∷ [])) rest ≡ pieces (parts_of ps) (begin t.production ∷ pieces t.parts (end t.production ∷ rest))
 pieces-inner [] t rest = refl
 pieces-inner (Token k ∷ ps) t rest = ap (λ x. one k ∷ x) (pieces-inner ps t rest)
 pieces-inner (Inner u ∷ ps) t rest = ap (λ x. begin u.production ∷ pieces u.parts (end u.production ∷ x)) (pieces-inner ps t rest)
@@ -27,7 +29,9 @@ opened-level : (ls : List Level) (l : Level) (ps : List Production) → opened_o
 opened-level [] l ps = refl
 opened-level (k ∷ ls) l ps = opened-level ls l (k.production ∷ ps)
 
-pub opened_it : (old new : Builder) (l : Level) (p : Production) → new.levels.items ≡ old.levels.items ++ l ∷ [] → new.parts.items ≡ [] → l.production ≡ p → l.before.items ≡ old.parts.items → Adds (begin p) old new
+pub opened_it :
+    (old new : Builder) (l : Level) (p : Production) → new.levels.items ≡ old.levels.items ++ l ∷ [] → new.parts.items ≡ [] → l.production ≡ p
+    → l.before.items ≡ old.parts.items → Adds (begin p) old new
 opened_it old new l p e f g h = record {
   added = λ rest.
       ap (λ x. pieces_of x (pieces (parts_of new.parts.items) rest)) e
@@ -51,7 +55,9 @@ added_it old new l e f = record {
 pub opened_same : (old new : Builder) → new.levels.items ≡ old.levels.items → opened new ≡ opened old
 opened_same old new e = ap (λ x. opened_onto x []) e
 
-pub closed_it : (old new : Builder) (l : Level) (t : Derivation) → old.levels.items ≡ new.levels.items ++ l ∷ [] → new.parts.items ≡ l.before.items ++ Inner t ∷ [] → t.production ≡ l.production → t.parts ≡ parts_of old.parts.items → Ends old new
+pub closed_it :
+    (old new : Builder) (l : Level) (t : Derivation) → old.levels.items ≡ new.levels.items ++ l ∷ [] → new.parts.items ≡ l.before.items ++ Inner t ∷ []
+    → t.production ≡ l.production → t.parts ≡ parts_of old.parts.items → Ends old new
 closed_it old new l t e f g h = record {
   production = l.production;
   opened = ap (λ x. opened_onto x []) e ∙ opened-level new.levels.items l [];

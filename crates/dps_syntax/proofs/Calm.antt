@@ -108,7 +108,8 @@ unfolding Sample
 term_word ss next ms n o d = record {
   marks = mark.Open production.Term ∷ mark.Token (Of token.Identifier) ∷ mark.Close production.Term ∷ ms;
   next = refl;
-  derived = inner (sign_of token.Identifier ∷ More more.Brackets ∷ []) (inl refl) (sign refl (left_out more.Brackets next (Close production.Term ∷ ss) (mark.Close production.Term ∷ ms) n o (close d)));
+  derived =
+      inner (sign_of token.Identifier ∷ More more.Brackets ∷ []) (inl refl) (sign refl (left_out more.Brackets next (Close production.Term ∷ ss) (mark.Close production.Term ∷ ms) n o (close d)));
 }
 
 pattern_word : Sample production.Pattern
@@ -130,13 +131,15 @@ pre_word ss next ms n o d = record {
 sum_word : Sample production.Sum
 unfolding Sample
 sum_word ss next ms n o d =
-    let h = pre_word (More more.Choice ∷ Close production.Sum ∷ ss) next (mark.Close production.Sum ∷ ms) n (weaker (closed_to production.Pre) (closed_to production.Sum) next refl o) (left_out more.Choice next (Close production.Sum ∷ ss) (mark.Close production.Sum ∷ ms) n (weaker (closed_behind more.Choice) (closed_to production.Sum) next refl o) (close d)) in
+    let h = pre_word (More more.Choice ∷ Close production.Sum ∷ ss) next (mark.Close production.Sum ∷ ms) n (weaker (closed_to production.Pre) (closed_to production.Sum) next refl o)
+    (left_out more.Choice next (Close production.Sum ∷ ss) (mark.Close production.Sum ∷ ms) n (weaker (closed_behind more.Choice) (closed_to production.Sum) next refl o) (close d)) in
     record { marks = mark.Open production.Sum ∷ h.marks; next = h.next; derived = inner (Inner production.Pre ∷ More more.Choice ∷ []) (inl refl) h.derived }
 
 par_word : Sample production.Par
 unfolding Sample
 par_word ss next ms n o d =
-    let h = sum_word (More more.Parallel ∷ Close production.Par ∷ ss) next (mark.Close production.Par ∷ ms) n (weaker (closed_to production.Sum) (closed_to production.Par) next refl o) (left_out more.Parallel next (Close production.Par ∷ ss) (mark.Close production.Par ∷ ms) n (weaker (closed_behind more.Parallel) (closed_to production.Par) next refl o) (close d)) in
+    let h = sum_word (More more.Parallel ∷ Close production.Par ∷ ss) next (mark.Close production.Par ∷ ms) n (weaker (closed_to production.Sum) (closed_to production.Par) next refl o)
+    (left_out more.Parallel next (Close production.Par ∷ ss) (mark.Close production.Par ∷ ms) n (weaker (closed_behind more.Parallel) (closed_to production.Par) next refl o) (close d)) in
     record { marks = mark.Open production.Par ∷ h.marks; next = h.next; derived = inner (Inner production.Sum ∷ More more.Parallel ∷ []) (inl refl) h.derived }
 
 ids_word : Sample production.Ids
@@ -154,7 +157,12 @@ decl_word ss next ms n o d =
     let lasts = mark.Token (Of token.Dot) ∷ mark.Close production.Decl ∷ ms in
     let e : Walks last lasts = sign refl (close d) in
     let h = ids_word (More more.Private ∷ last) (Some (Of token.Dot)) lasts refl refl (left refl e) in
-    record { marks = mark.Open production.Decl ∷ mark.Token (Of token.Free) ∷ h.marks; next = refl; derived = inner (sign_of token.Free ∷ Inner production.Ids ∷ More more.Private ∷ sign_of token.Dot ∷ []) (inl refl) (sign refl h.derived) }
+    record {
+      marks = mark.Open production.Decl ∷ mark.Token (Of token.Free) ∷ h.marks;
+      next = refl;
+      derived = inner
+          (sign_of token.Free ∷ Inner production.Ids ∷ More more.Private ∷ sign_of token.Dot ∷ []) (inl refl) (sign refl h.derived);
+    }
 
 rule_word : Sample production.Rule
 unfolding Sample
@@ -164,7 +172,13 @@ rule_word ss next ms n o d =
     let lasts = mark.Token (Of token.CloseParenthesis) ∷ mark.Token (Of token.Arrow) ∷ t.marks in
     let a : Walks last lasts = sign refl (sign refl t.derived) in
     let h = term_word (More more.Terms ∷ last) (Some (Of token.CloseParenthesis)) lasts refl refl (left refl a) in
-    record { marks = mark.Open production.Rule ∷ mark.Token (Of token.Identifier) ∷ mark.Token (Of token.OpenParenthesis) ∷ h.marks; next = refl; derived = inner (sign_of token.Identifier ∷ sign_of token.OpenParenthesis ∷ Inner production.Term ∷ More more.Terms ∷ sign_of token.CloseParenthesis ∷ sign_of token.Arrow ∷ Inner production.Term ∷ []) (inl refl) (sign refl (sign refl h.derived)) }
+    record {
+      marks = mark.Open production.Rule ∷ mark.Token (Of token.Identifier) ∷ mark.Token (Of token.OpenParenthesis) ∷ h.marks;
+      next = refl;
+      derived = inner
+          (sign_of token.Identifier ∷ sign_of token.OpenParenthesis ∷ Inner production.Term ∷ More more.Terms ∷ sign_of token.CloseParenthesis ∷ sign_of token.Arrow ∷ Inner production.Term ∷ [])
+          (inl refl) (sign refl (sign refl h.derived));
+    }
 
 query_word : Sample production.Query
 unfolding Sample
@@ -175,7 +189,13 @@ query_word ss next ms n o d =
     let right = par_word last (Some (Of token.CloseParenthesis)) lasts refl refl a in
     let b : Walks (sign_of token.Comma ∷ Inner production.Par ∷ last) (mark.Token (Of token.Comma) ∷ right.marks) = sign refl right.derived in
     let first = par_word (sign_of token.Comma ∷ Inner production.Par ∷ last) (Some (Of token.Comma)) (mark.Token (Of token.Comma) ∷ right.marks) refl refl b in
-    record { marks = mark.Open production.Query ∷ mark.Token (Of token.Query) ∷ mark.Token (Of token.TraceEquiv) ∷ mark.Token (Of token.OpenParenthesis) ∷ first.marks; next = refl; derived = inner (sign_of token.Query ∷ sign_of token.TraceEquiv ∷ sign_of token.OpenParenthesis ∷ Inner production.Par ∷ sign_of token.Comma ∷ Inner production.Par ∷ sign_of token.CloseParenthesis ∷ sign_of token.Dot ∷ []) (inl refl) (sign refl (sign refl (sign refl first.derived))) }
+    record {
+      marks = mark.Open production.Query ∷ mark.Token (Of token.Query) ∷ mark.Token (Of token.TraceEquiv) ∷ mark.Token (Of token.OpenParenthesis) ∷ first.marks;
+      next = refl;
+      derived =
+          inner (sign_of token.Query ∷ sign_of token.TraceEquiv ∷ sign_of token.OpenParenthesis ∷ Inner production.Par ∷ sign_of token.Comma ∷ Inner production.Par ∷ sign_of token.CloseParenthesis
+          ∷ sign_of token.Dot ∷ []) (inl refl) (sign refl (sign refl (sign refl first.derived)));
+    }
 
 word : (p : Production) → Sample p
 unfolding Sample

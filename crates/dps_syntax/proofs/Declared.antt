@@ -25,12 +25,8 @@ use Rattle.dps_syntax.specs.Spans.{IsOpening, AreDeclarations}
 
 -- the trees of a file begin with the keywords of declarations
 
-bool_cases : (b : Bool) → (b ≡ true) ⊎ (b ≡ false)
-bool_cases true = inl refl
-bool_cases false = inr refl
-
 -- a token that is no number is what the grammar says
-kind_taken : (k : TokenKind) (l : Lexeme) → takes (Of k) Zero ≡ false → sameb the_type k kind.Number ≡ false → takes (Of k) (word_of l) ≡ true → l.kind ≡ k
+pub kind_taken : (k : TokenKind) (l : Lexeme) → takes (Of k) Zero ≡ false → sameb the_type k kind.Number ≡ false → takes (Of k) (word_of l) ≡ true → l.kind ≡ k
 kind_taken k l z n t = by_text (is_zero l.text) t
   where
     of_kind : (s b : Bool) → b ≡ false → (s || (if b then false else false)) ≡ true → s ≡ true
@@ -42,10 +38,14 @@ kind_taken k l z n t = by_text (is_zero l.text) t
     by_text true e = let never : true ≡ false = sym e ∙ z in cc
     by_text false e = sym (same_true the_type tt k l.kind (of_kind (sameb the_type k l.kind) (sameb the_type k kind.Number) n e))
 
-opening_of : (k : TokenKind) (l : Lexeme) (rest : Parts) → IsOpening (Some k) → takes (Of k) Zero ≡ false → sameb the_type k kind.Number ≡ false → takes (Of k) (word_of l) ≡ true → IsOpening (first_kind (token l rest))
+opening_of :
+    (k : TokenKind) (l : Lexeme) (rest : Parts) → IsOpening (Some k) → takes (Of k) Zero ≡ false → sameb the_type k kind.Number ≡ false
+    → takes (Of k) (word_of l) ≡ true → IsOpening (first_kind (token l rest))
 opening_of k l rest o z n t = subst (λ x. IsOpening (Some x)) (sym (kind_taken k l z n t)) o
 
-first_token : (k : TokenKind) (ss : List Symbol) (ps : Parts) (after : List Word) → IsOpening (Some k) → takes (Of k) Zero ≡ false → sameb the_type k kind.Number ≡ false → Derives (sign_of k ∷ ss) ps after → IsOpening (first_kind ps)
+first_token :
+    (k : TokenKind) (ss : List Symbol) (ps : Parts) (after : List Word) → IsOpening (Some k) → takes (Of k) Zero ≡ false → sameb the_type k kind.Number ≡ false
+    → Derives (sign_of k ∷ ss) ps after → IsOpening (first_kind ps)
 first_token k ss (token l rest) after o z n (sign t d) = opening_of k l rest o z n t
 first_token k ss (within p i rest) after o z n d = elim d [ ]
 first_token k ss none after o z n d = elim d [ ]
@@ -73,7 +73,9 @@ is_top (Inner production.Query ∷ ss) = is_top ss
 is_top (More more.Declarations ∷ ss) = is_top ss
 is_top _ = false
 
-top_opens : (p : Production) (ss items : List Symbol) (ps : Parts) (after : List Word) → is_top (Inner p ∷ ss) ≡ true → IsOneOf (alternatives p) items → Derives items ps after → IsOpening (first_kind ps)
+top_opens :
+    (p : Production) (ss items : List Symbol) (ps : Parts) (after : List Word) → is_top (Inner p ∷ ss) ≡ true → IsOneOf (alternatives p) items
+    → Derives items ps after → IsOpening (first_kind ps)
 top_opens production.Decl ss items ps after t o d = declaration_opens items ps after o d
 top_opens production.Query ss items ps after t o d = query_opens items ps after o d
 top_opens production.Ids ss items ps after t o d = absurd (let never : false ≡ true = t in clash never)
@@ -149,7 +151,9 @@ declaring_first all rest count found e c n a = record {
   declared = subst (λ x. AreDeclarations (parts_of x)) (sym e) a;
 }
 
-pub declaring_opens : (all rest left : List Part) (count : ℕ) (found : List Decl) (p : Part) (t : Derivation) → IsDeclaring all rest count found → rest ≡ p ∷ left → p ≡ part.Inner t → IsOpening (first_kind t.parts)
+pub declaring_opens :
+    (all rest left : List Part) (count : ℕ) (found : List Decl) (p : Part) (t : Derivation) → IsDeclaring all rest count found → rest ≡ p ∷ left
+    → p ≡ part.Inner t → IsOpening (first_kind t.parts)
 declaring_opens all rest left count found p t x e f =
     let h : AreDeclarations (parts_of (part.Inner t ∷ left)) = subst (λ y. AreDeclarations (parts_of y)) (e ∙ ap (λ y. y ∷ left) f) x.declared in
     h.0
@@ -159,7 +163,9 @@ declaring_token all rest left count found p l x e f =
     let h : AreDeclarations (parts_of (part.Token l ∷ left)) = subst (λ y. AreDeclarations (parts_of y)) (e ∙ ap (λ y. y ∷ left) f) x.declared in
     h
 
-pub declaring_more : (all rest left : List Part) (count more : ℕ) (found new : List Decl) (p : Part) (t : Derivation) (d : Decl) → IsDeclaring all rest count found → rest ≡ p ∷ left → more + 1 ≡ count → p ≡ part.Inner t → tree_of d ≡ t → HasItsKeyword d → new ≡ found ++ d ∷ [] → IsDeclaring all left more new
+pub declaring_more :
+    (all rest left : List Part) (count more : ℕ) (found new : List Decl) (p : Part) (t : Derivation) (d : Decl) → IsDeclaring all rest count found
+    → rest ≡ p ∷ left → more + 1 ≡ count → p ≡ part.Inner t → tree_of d ≡ t → HasItsKeyword d → new ≡ found ++ d ∷ [] → IsDeclaring all left more new
 declaring_more all rest left count more found new p t d x e c f g k n =
     let whole : rest ≡ part.Inner t ∷ left = e ∙ ap (λ y. y ∷ left) f in
     let h : AreDeclarations (parts_of (part.Inner t ∷ left)) = subst (λ y. AreDeclarations (parts_of y)) whole x.declared in
@@ -168,7 +174,9 @@ declaring_more all rest left count more found new p t d x e c f g k n =
       taken = x.taken ++ part.Inner t ∷ [];
       split = append_assoc x.taken (part.Inner t ∷ []) left ∙ ap (λ y. x.taken ++ y) (sym whole) ∙ x.split;
       counted = omega (arith, c, x.counted, ap length whole);
-      trees = ap trees_of n ∙ trees_of-push found d ∙ ap (λ y. joined y (within (tree_of d).production (tree_of d).parts none)) x.trees ∙ ap (joined (parts_of x.taken)) one ∙ sym (parts_of-push x.taken t);
+      trees =
+          ap trees_of n ∙ trees_of-push found d ∙ ap (λ y. joined y (within (tree_of d).production (tree_of d).parts none)) x.trees ∙ ap (joined (parts_of x.taken)) one
+          ∙ sym (parts_of-push x.taken t);
       keywords = subst (All HasItsKeyword) (sym n) (All-push HasItsKeyword found d x.keywords k);
       declared = h.1;
     }

@@ -1,5 +1,6 @@
 -- A whole file, word by word.
-use Rattle.std.proofs.Common.{slice_get, get_or, MatchBool, ℕ, ◌+◌, ◌<◌, ◌≤◌, length, arith, add-one, take, ◌≡◌, Bool, true, false, List, [], ◌∷◌, ◌++◌, Option, Some, None, refl, ap, sym, ◌∙◌, subst, append_assoc, length-append}
+use Rattle.std.proofs.Common.{slice_get, get_or, MatchBool, ℕ, ◌+◌, ◌<◌, ◌≤◌, length, arith, add-one, take, ◌≡◌, Bool, true}
+use Rattle.std.proofs.Common.{false, List, [], ◌∷◌, ◌++◌, Option, Some, None, refl, ap, sym, ◌∙◌, subst, append_assoc, length-append}
 use Rattle.std.proofs.lemmas.List.Elements.{All-nil, All-push}
 use Rattle.dps_syntax.specs.declared.grammar.Word.{Word}
 use Rattle.dps_syntax.specs.declared.grammar.Symbol.{Symbol}
@@ -70,12 +71,16 @@ through next old new made t r = λ ms n d. (
     let h = t.on ms n d in
     r h.0 (subst (NextIs next) (ap mark_words h.1 ∙ words_silent made h.0 t.silent) n) h.2)
 
-pub took_sign : (j k : Word) (old new : List Symbol) (found : Awaited) (before mid after : List Mark) → found ≡ awaited.Sign j → Awaits (Some k) old found new before mid → true ≡ takes j k → after ≡ mid ++ mark.Token k ∷ [] → Took k old new before after
+pub took_sign :
+    (j k : Word) (old new : List Symbol) (found : Awaited) (before mid after : List Mark) → found ≡ awaited.Sign j → Awaits (Some k) old found new before mid
+    → true ≡ takes j k → after ≡ mid ++ mark.Token k ∷ [] → Took k old new before after
 took_sign j k old new found before mid after e a i l =
     let h : Awaits (Some k) old (awaited.Sign j) new before mid = subst (λ f. Awaits (Some k) old f new before mid) e a in
     (h.0 ++ mark.Token k ∷ [], l ∙ ap (λ x. x ++ mark.Token k ∷ []) h.1 ∙ append_assoc before h.0 (mark.Token k ∷ []), accepts j k old new h.0 h.2 h.3 (sym i))
 
-pub not_sign_found : (j k : Word) (old new : List Symbol) (found : Awaited) (before mid : List Mark) → found ≡ awaited.Sign j → Awaits (Some k) old found new before mid → false ≡ takes j k → Refuses (Some k) old
+pub not_sign_found :
+    (j k : Word) (old new : List Symbol) (found : Awaited) (before mid : List Mark) → found ≡ awaited.Sign j → Awaits (Some k) old found new before mid
+    → false ≡ takes j k → Refuses (Some k) old
 not_sign_found j k old new found before mid e a i =
     let h : Awaits (Some k) old (awaited.Sign j) new before mid = subst (λ f. Awaits (Some k) old f new before mid) e a in
     through (Some k) old (Sign j ∷ new) h.0 h.2 (other_sign j k new (sym i))
@@ -105,15 +110,17 @@ pub record IsExact (front : List Word) (ss : List Symbol) (made : List Mark) : T
   pub shallow : AreShallow levels
 
 pub exact_first : IsExact [] file []
-exact_first = record { on = λ ms ts s d. (ms, refl, d, s); back = λ ms d. d; spelled = refl; calm = refl; levels = []; level = λ ms. refl; counted = refl; shallow = All-nil (λ depth. depth ≤ deepest) }
+exact_first =
+    record { on = λ ms ts s d. (ms, refl, d, s); back = λ ms d. d; spelled = refl; calm = refl; levels = []; level = λ ms. refl; counted = refl; shallow = All-nil (λ depth. depth ≤ deepest) }
 
-more_levels : (levels rest deeper : List ℕ) (depth : ℕ) → rest ≡ depth ∷ deeper → levels ++ rest ≡ (levels ++ depth ∷ []) ++ deeper
-more_levels levels rest deeper depth e = ap (λ x. levels ++ x) e ∙ sym (append_assoc levels (depth ∷ []) deeper)
-
-levels_behind : (front : List Word) (old new : List Symbol) (k : Word) (before made : List Mark) (x : IsExact front old before) → Accepts k old new made → (ms : List Mark) → mark_depths 0 ((before ++ made) ++ ms) ≡ x.levels ++ held new ∷ mark_depths (held new) ms
+levels_behind :
+    (front : List Word) (old new : List Symbol) (k : Word) (before made : List Mark) (x : IsExact front old before) → Accepts k old new made → (ms : List Mark)
+    → mark_depths 0 ((before ++ made) ++ ms) ≡ x.levels ++ held new ∷ mark_depths (held new) ms
 levels_behind front old new k before made x a ms = ap (mark_depths 0) (append_assoc before made ms) ∙ x.level (made ++ ms) ∙ ap (λ y. x.levels ++ y) (a.level ms)
 
-pub exact_more : (front : List Word) (old new : List Symbol) (k : Word) (before made : List Mark) → IsExact front old before → Accepts k old new made → held new ≤ deepest → IsExact (front ++ k ∷ []) new (before ++ made)
+pub exact_more :
+    (front : List Word) (old new : List Symbol) (k : Word) (before made : List Mark) → IsExact front old before → Accepts k old new made → held new ≤ deepest
+    → IsExact (front ++ k ∷ []) new (before ++ made)
 exact_more front old new k before made x a h = record {
   on = λ ms ts s d. (
       let h = x.on ms (k ∷ ts) (s ∙ append_assoc front (k ∷ []) ts) d in
@@ -157,7 +164,8 @@ pub too_deep_of : (front : List Word) (old new : List Symbol) (k : Word) (before
 too_deep_of front old new k before made x a h =
     let c = comes new a.calm in
     let spelled : mark_words ((before ++ made) ++ c.marks) ≡ front ++ k ∷ mark_words c.marks =
-    words_append (before ++ made) c.marks ∙ ap (λ y. y ++ mark_words c.marks) (words_append before made ∙ ap (λ y. y ++ mark_words made) x.spelled ∙ ap (λ y. front ++ y) a.spelled) ∙ append_assoc front (k ∷ []) (mark_words c.marks) in
+    words_append (before ++ made) c.marks ∙ ap (λ y. y ++ mark_words c.marks) (words_append before made ∙ ap (λ y. y ++ mark_words made) x.spelled ∙ ap (λ y. front ++ y) a.spelled)
+    ∙ append_assoc front (k ∷ []) (mark_words c.marks) in
     let walked : Walks file ((before ++ made) ++ c.marks) = subst (Walks file) (sym (append_assoc before made c.marks)) (x.back (made ++ c.marks) (a.back c.marks c.derived)) in
     let t = tree_of ((before ++ made) ++ c.marks) walked in
     record {
@@ -166,7 +174,9 @@ too_deep_of front old new k before made x a h =
       trees = t.trees;
       file = record { derived = t.derived; spelled = t.spelled ∙ spelled };
       depth = held new;
-      stands = ap (λ ds. slice_get ds (length front)) (t.levels ∙ levels_behind front old new k before made x a c.marks) ∙ get_behind x.levels (mark_depths (held new) c.marks) (held new) (length front) x.counted;
+      stands =
+          ap (λ ds. slice_get ds (length front)) (t.levels ∙ levels_behind front old new k before made x a c.marks)
+          ∙ get_behind x.levels (mark_depths (held new) c.marks) (held new) (length front) x.counted;
       deep = h;
     }
 
@@ -192,23 +202,29 @@ cut_short_of front ss made x none = record {
 
 -- the steps of the loop
 
-pub exact_found : (text : List Word) (place : ℕ) (old new : List Symbol) (d : Word) (b : Bool) (before after : List Mark) → place < length text → b ≡ true → IsExact (take place text) old before → MatchBool b (Took (get_or text place d) old new before after) (Refuses (Some (get_or text place d)) old) → held new ≤ deepest → IsExact (take (place + 1) text) new after
+pub exact_found :
+    (text : List Word) (place : ℕ) (old new : List Symbol) (d : Word) (b : Bool) (before after : List Mark) → place < length text → b ≡ true
+    → IsExact (take place text) old before → MatchBool b (Took (get_or text place d) old new before after) (Refuses (Some (get_or text place d)) old)
+    → held new ≤ deepest → IsExact (take (place + 1) text) new after
 exact_found text place old new d false before after l e x m h = cc
 exact_found text place old new d true before after l e x m h =
     let k = get_or text place d in
-    subst (λ f. IsExact f new after) (sym (take_one text place k (slice_get-get_or text place d l))) (subst (IsExact (take place text ++ k ∷ []) new) (sym m.1) (exact_more (take place text) old new k before m.0 x m.2 h))
+    subst (λ f. IsExact f new after) (sym (take_one text place k (slice_get-get_or text place d l)))
+    (subst (IsExact (take place text ++ k ∷ []) new) (sym m.1) (exact_more (take place text) old new k before m.0 x m.2 h))
 
-pub calm_found : (next : Word) (old new : List Symbol) (b : Bool) (before after : List Mark) → b ≡ true → MatchBool b (Took next old new before after) (Refuses (Some next) old) → calm new ≡ true
-calm_found next old new true before after e m = m.2.calm
-calm_found next old new false before after e m = cc
-
-pub too_deep_found : (text : List Word) (place : ℕ) (old new : List Symbol) (d : Word) (b : Bool) (before after : List Mark) → place < length text → b ≡ true → IsExact (take place text) old before → MatchBool b (Took (get_or text place d) old new before after) (Refuses (Some (get_or text place d)) old) → deepest < held new → IsFaultAt text place TooDeep
+pub too_deep_found :
+    (text : List Word) (place : ℕ) (old new : List Symbol) (d : Word) (b : Bool) (before after : List Mark) → place < length text → b ≡ true
+    → IsExact (take place text) old before → MatchBool b (Took (get_or text place d) old new before after) (Refuses (Some (get_or text place d)) old)
+    → deepest < held new → IsFaultAt text place TooDeep
 too_deep_found text place old new d false before after l e x m h = cc
 too_deep_found text place old new d true before after l e x m h =
     let k = get_or text place d in
     (k, slice_get-get_or text place d l, too_deep_of (take place text) old new k before m.0 x m.2 h)
 
-pub unexpected_found : (text : List Word) (place : ℕ) (old new : List Symbol) (d : Word) (b : Bool) (before after : List Mark) → place < length text → b ≡ false → IsExact (take place text) old before → MatchBool b (Took (get_or text place d) old new before after) (Refuses (Some (get_or text place d)) old) → IsFaultAt text place UnexpectedToken
+pub unexpected_found :
+    (text : List Word) (place : ℕ) (old new : List Symbol) (d : Word) (b : Bool) (before after : List Mark) → place < length text → b ≡ false
+    → IsExact (take place text) old before → MatchBool b (Took (get_or text place d) old new before after) (Refuses (Some (get_or text place d)) old)
+    → IsFaultAt text place UnexpectedToken
 unexpected_found text place old new d true before after l e x m = cc
 unexpected_found text place old new d false before after l e x m =
     let k = get_or text place d in
@@ -245,11 +261,15 @@ file_end text ss before after x e =
       shallow = subst AreShallow (sym (ap (mark_depths 0) e.1 ∙ x.level made ∙ ap (λ y. x.levels ++ y) flat ∙ levels_nil x.levels)) x.shallow;
     }
 
-pub file_found : (text : List Word) (place : ℕ) (ss : List Symbol) (b : Bool) (before after : List Mark) → length text ≤ place → place ≤ length text → b ≡ true → IsExact (take place text) ss before → MatchBool b (Ended ss before after) (Refuses None ss) → IsShallowWalk text after
+pub file_found :
+    (text : List Word) (place : ℕ) (ss : List Symbol) (b : Bool) (before after : List Mark) → length text ≤ place → place ≤ length text → b ≡ true
+    → IsExact (take place text) ss before → MatchBool b (Ended ss before after) (Refuses None ss) → IsShallowWalk text after
 file_found text place ss true before after l u e x m = file_end text ss before after (subst (λ f. IsExact f ss before) (at_the_end text place l u) x) m
 file_found text place ss false before after l u e x m = cc
 
-pub cut_short_found : (text : List Word) (place : ℕ) (ss : List Symbol) (b : Bool) (before after : List Mark) → length text ≤ place → place ≤ length text → b ≡ false → IsExact (take place text) ss before → MatchBool b (Ended ss before after) (Refuses None ss) → IsFaultAt text (length text) UnexpectedEnd
+pub cut_short_found :
+    (text : List Word) (place : ℕ) (ss : List Symbol) (b : Bool) (before after : List Mark) → length text ≤ place → place ≤ length text → b ≡ false
+    → IsExact (take place text) ss before → MatchBool b (Ended ss before after) (Refuses None ss) → IsFaultAt text (length text) UnexpectedEnd
 cut_short_found text place ss true before after l u e x m = cc
 cut_short_found text place ss false before after l u e x m = (refl, cut_short_of text ss before (subst (λ f. IsExact f ss before) (at_the_end text place l u) x) m)
 

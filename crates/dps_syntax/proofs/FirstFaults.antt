@@ -1,5 +1,6 @@
 -- First faults are determined, and each text is a file or has one.
-use Rattle.std.proofs.Common.{◌≡◌, ℕ, ◌+◌, ◌<◌, ◌≤◌, List, [], ◌∷◌, ◌++◌, Option, Some, None, ◌⊎◌, length, take, drop, slice_get, refl, ap, sym, ◌∙◌, subst, inl, inr, arith, zero, suc, append_assoc, append-nil}
+use Rattle.std.proofs.Common.{◌≡◌, ℕ, ◌+◌, ◌<◌, ◌≤◌, List, [], ◌∷◌, ◌++◌, Option, Some, None, ◌⊎◌, length}
+use Rattle.std.proofs.Common.{take, drop, slice_get, refl, ap, sym, ◌∙◌, subst, inl, inr, arith, zero, suc, append_assoc, append-nil}
 use Rattle.std.specs.Prelude.{MatchOption}
 use Rattle.std.proofs.lemmas.List.Elements.{All-take}
 use Rattle.std.proofs.lemmas.Option.{slice_get_within}
@@ -13,7 +14,7 @@ use Rattle.dps_syntax.specs.declared.grammar.Word.{Word}
 use Rattle.dps_syntax.specs.Tree.{Lexeme, Parts, none, token, inner, lexemes, words, word_of}
 use Rattle.dps_syntax.specs.Depth.{deepest, own_depth, AreShallow, depths, Begins, IsFaultAt}
 use Rattle.dps_syntax.specs.Files.{lexemes_at, words_at, IsSyntaxFault, IsFirstFault, at_token, lexical, at_end}
-use Rattle.dps_syntax.specs.LawsOfFiles.{IsShallowFileOf, NoWordsHaveTwoFaults, IsTreeOfText, EachTextIsFileOrHasFault, NoTextIsFileAndHasFault}
+use Rattle.dps_syntax.specs.LawsOfFiles.{IsShallowFileOf, NoWordsHaveTwoFaults, IsTreeOfText, EachTextIsFileOrHasFault, NoTextIsFileAndHasFault, NoTextHasTwoFaults}
 use Rattle.dps_syntax.proofs.Trees.{walk_of, walk_words}
 use Rattle.dps_syntax.specs.Marks.{marks}
 use Rattle.dps_syntax.proofs.Alike.{AreAlike, alike_derived}
@@ -48,7 +49,8 @@ not_before text p q fault.TooDeep l w f b =
     let deep = f.2 in
     let front = take p text in
     let text_of : words b.trees ≡ front ++ f.0 ∷ (h.0 ++ b.more) = b.file.spelled ∙ ap (λ x. x ++ b.more) h.1 ∙ append_assoc front (f.0 ∷ h.0) b.more in
-    let agree = depths_agree (walk_of b.trees b.file.derived) (marks deep.trees []) (walk_of deep.trees deep.file.derived) front (h.0 ++ b.more) deep.more f.0 0 (walk_words b.trees ∙ text_of) (walk_words deep.trees ∙ deep.file.spelled) in
+    let agree = depths_agree (walk_of b.trees b.file.derived) (marks deep.trees []) (walk_of deep.trees deep.file.derived) front (h.0 ++ b.more) deep.more f.0 0 (walk_words b.trees ∙ text_of)
+    (walk_words deep.trees ∙ deep.file.spelled) in
     let found : slice_get (depths 0 b.trees) (length front) ≡ Some deep.depth =
     ap (λ ds. slice_get ds (length front)) (sym (depths_of b.trees)) ∙ agree ∙ ap (λ ds. slice_get ds (length front)) (depths_of deep.trees) ∙ deep.stands in
     let at : length front ≡ p = take_length text p (slice_get_within text p f.0 f.1) in
@@ -215,14 +217,25 @@ abbrev fault_of : List ℕ → Option Token → FaultKind → Fault
 fault_of bytes None kind = record { line = line_behind bytes; column = column_behind bytes; kind = kind }
 fault_of bytes (Some t) kind = record { line = t.line; column = t.column; kind = kind }
 
-syntax_fault : (bytes : List ℕ) (tokens : List Token) (place : ℕ) (kind : FaultKind) → IsFaultAt (words_at bytes tokens) place kind → (o : Option Token) → slice_get tokens place ≡ o → IsSyntaxFault bytes tokens place (fault_of bytes o kind)
-syntax_fault bytes tokens place kind f None e = record { first = f; stands = subst (λ x. MatchOption x ((line_behind bytes ≡ line_behind bytes) × (column_behind bytes ≡ column_behind bytes)) (λ t. (line_behind bytes ≡ t.line) × (column_behind bytes ≡ t.column))) (sym e) (refl, refl) }
-syntax_fault bytes tokens place kind f (Some u) e = record { first = f; stands = subst (λ x. MatchOption x ((u.line ≡ line_behind bytes) × (u.column ≡ column_behind bytes)) (λ t. (u.line ≡ t.line) × (u.column ≡ t.column))) (sym e) (refl, refl) }
+syntax_fault :
+    (bytes : List ℕ) (tokens : List Token) (place : ℕ) (kind : FaultKind) → IsFaultAt (words_at bytes tokens) place kind → (o : Option Token)
+    → slice_get tokens place ≡ o → IsSyntaxFault bytes tokens place (fault_of bytes o kind)
+syntax_fault bytes tokens place kind f None e =
+    record {
+      first = f;
+      stands = subst
+          (λ x. MatchOption x ((line_behind bytes ≡ line_behind bytes) × (column_behind bytes ≡ column_behind bytes)) (λ t. (line_behind bytes ≡ t.line) × (column_behind bytes ≡ t.column)))
+          (sym e) (refl, refl);
+    }
+syntax_fault bytes tokens place kind f (Some u) e =
+    record { first = f; stands = subst (λ x. MatchOption x ((u.line ≡ line_behind bytes) × (u.column ≡ column_behind bytes)) (λ t. (u.line ≡ t.line) × (u.column ≡ t.column))) (sym e) (refl, refl) }
 
 abbrev IsOrHas : List ℕ → Type 0
 IsOrHas bytes = ((trees : Parts) × IsTreeOfText bytes trees) ⊎ ((fault : Fault) × IsFirstFault bytes fault)
 
-of_fault : (bytes : List ℕ) (tokens : List Token) (stop : Option Fault) (place : ℕ) (kind : FaultKind) → IsReading bytes tokens stop → IsFaultAt (words_at bytes tokens) place kind → (place < length tokens) ⊎ (length tokens ≤ place) → IsOrHas bytes
+of_fault :
+    (bytes : List ℕ) (tokens : List Token) (stop : Option Fault) (place : ℕ) (kind : FaultKind) → IsReading bytes tokens stop
+    → IsFaultAt (words_at bytes tokens) place kind → (place < length tokens) ⊎ (length tokens ≤ place) → IsOrHas bytes
 of_fault bytes tokens stop place kind r f (inl l) =
     let o = slice_get tokens place in
     inr (fault_of bytes o kind, at_token tokens stop place r l (syntax_fault bytes tokens place kind f o refl))
@@ -238,7 +251,10 @@ lt_or_le a zero = inr (omega arith)
 lt_or_le zero (suc b) = inl (omega arith)
 lt_or_le (suc a) (suc b) = elim (lt_or_le a b) [ inl h ↦ inl (omega (arith, h)) | inr h ↦ inr (omega (arith, h)) ]
 
-of_words : (bytes : List ℕ) (tokens : List Token) (stop : Option Fault) → IsReading bytes tokens stop → ((trees : Parts) × IsShallowFileOf (words_at bytes tokens) trees) ⊎ ((place : ℕ) × ((kind : FaultKind) × IsFaultAt (words_at bytes tokens) place kind)) → IsOrHas bytes
+of_words :
+    (bytes : List ℕ) (tokens : List Token) (stop : Option Fault) → IsReading bytes tokens stop
+    → ((trees : Parts) × IsShallowFileOf (words_at bytes tokens) trees) ⊎ ((place : ℕ) × ((kind : FaultKind) × IsFaultAt (words_at bytes tokens) place kind))
+    → IsOrHas bytes
 of_words bytes tokens None r (inl s) = inl (file_text bytes tokens s.0 r s.1)
 of_words bytes tokens (Some wrong) r (inl s) = inr (wrong, lexical tokens r (begins_shallow (words_at bytes tokens) s.0 s.1))
 of_words bytes tokens stop r (inr f) = of_fault bytes tokens stop f.0 f.1.0 r f.1.1 (lt_or_le f.0 (length tokens))
@@ -264,3 +280,52 @@ not_both_of_text one bytes trees wrong t (lexical tokens r b) =
     let h : None ≡ Some wrong = (one bytes t.tokens tokens None (Some wrong) t.reading r).1 in
     cc
 not_both_of_text one bytes trees wrong t (at_end tokens r f) = never_at bytes trees t tokens (length tokens) wrong (one bytes t.tokens tokens None None t.reading r).0 f
+
+-- two faults of one text
+
+one_place :
+    (bytes : List ℕ) (a b : Fault) (o : Option Token) → a.kind ≡ b.kind
+    → MatchOption o ((a.line ≡ line_behind bytes) × (a.column ≡ column_behind bytes)) (λ t. (a.line ≡ t.line) × (a.column ≡ t.column))
+    → MatchOption o ((b.line ≡ line_behind bytes) × (b.column ≡ column_behind bytes)) (λ t. (b.line ≡ t.line) × (b.column ≡ t.column)) → a ≡ b
+one_place bytes a b None k f g =
+    let line : a.line ≡ b.line = f.0 ∙ sym g.0 in
+    let column : a.column ≡ b.column = f.1 ∙ sym g.1 in
+    λ i. record { line = line i; column = column i; kind = k i }
+one_place bytes a b (Some t) k f g =
+    let line : a.line ≡ b.line = f.0 ∙ sym g.0 in
+    let column : a.column ≡ b.column = f.1 ∙ sym g.1 in
+    λ i. record { line = line i; column = column i; kind = k i }
+
+one_syntax_fault : (bytes : List ℕ) (tokens others : List Token) (p q : ℕ) (a b : Fault) → tokens ≡ others → IsSyntaxFault bytes tokens p a → IsSyntaxFault bytes others q b → (p ≡ q) × (a ≡ b)
+one_syntax_fault bytes tokens others p q a b same f h =
+    let g : IsSyntaxFault bytes tokens q b = subst (λ ts. IsSyntaxFault bytes ts q b) (sym same) h in
+    let e = one_fault (words_at bytes tokens) p q a.kind b.kind f.first g.first in
+    let here : IsSyntaxFault bytes tokens p b = subst (λ n. IsSyntaxFault bytes tokens n b) (sym e.0) g in
+    (e.0, one_place bytes a b (slice_get tokens p) e.1 f.stands here.stands)
+
+not_among : (bytes : List ℕ) (tokens others : List Token) (place : ℕ) (a : Fault) → tokens ≡ others → place < length tokens → IsSyntaxFault bytes tokens place a → Begins (words_at bytes others) → ⊥
+not_among bytes tokens others place a same l f b =
+    let text = words_at bytes tokens in
+    let begins : Begins text = subst (λ ts. Begins (words_at bytes ts)) (sym same) b in
+    not_before text place (length text) a.kind (omega (arith, l, words_count bytes tokens)) (omega arith) f.first (subst Begins (sym (take_all text (length text) (omega arith))) begins)
+
+pub one_fault_of_text : NoTextHasTwoReadings → NoTextHasTwoFaults
+one_fault_of_text one bytes a b (at_token ts s p r l f) (at_token us o q k m g) = (one_syntax_fault bytes ts us p q a b (one bytes ts us s o r k).0 f g).1
+one_fault_of_text one bytes a b (at_token ts s p r l f) (lexical us k h) = absurd (not_among bytes ts us p a (one bytes ts us s (Some b) r k).0 l f h)
+one_fault_of_text one bytes a b (at_token ts s p r l f) (at_end us k g) =
+    let same = (one bytes ts us s None r k).0 in
+    absurd (omega (arith, l, (one_syntax_fault bytes ts us p (length us) a b same f g).0, ap length same))
+one_fault_of_text one bytes a b (lexical ts r h) (at_token us o q k m g) = absurd (not_among bytes us ts q b (one bytes us ts o (Some a) k r).0 m g h)
+one_fault_of_text one bytes a b (lexical ts r h) (lexical us k g) =
+    let e : Some a ≡ Some b = (one bytes ts us (Some a) (Some b) r k).1 in
+    cc
+one_fault_of_text one bytes a b (lexical ts r h) (at_end us k g) =
+    let e : Some a ≡ None = (one bytes ts us (Some a) None r k).1 in
+    cc
+one_fault_of_text one bytes a b (at_end ts r f) (at_token us o q k m g) =
+    let same = (one bytes us ts o None k r).0 in
+    absurd (omega (arith, m, (one_syntax_fault bytes us ts q (length ts) b a same g f).0, ap length same))
+one_fault_of_text one bytes a b (at_end ts r f) (lexical us k h) =
+    let e : None ≡ Some b = (one bytes ts us None (Some b) r k).1 in
+    cc
+one_fault_of_text one bytes a b (at_end ts r f) (at_end us k g) = (one_syntax_fault bytes ts us (length ts) (length us) a b (one bytes ts us None None r k).0 f g).1

@@ -21,7 +21,9 @@ pub record IsBuilding (bytes : List ℕ) (ms : List Mark) (tokens : List Token) 
   pub balanced : IsBalanced (drop place ms) (opened builder)
   pub spelled : mark_words (drop place ms) ≡ words_at bytes (drop next tokens)
 
-pub building_first : (bytes : List ℕ) (ms : List Mark) (tokens : List Token) (builder : Builder) → ((rest : List Piece) → built builder rest ≡ rest) → opened builder ≡ [] → IsBalanced ms [] → mark_words ms ≡ words_at bytes tokens → IsBuilding bytes ms tokens 0 0 builder
+pub building_first :
+    (bytes : List ℕ) (ms : List Mark) (tokens : List Token) (builder : Builder) → ((rest : List Piece) → built builder rest ≡ rest) → opened builder ≡ []
+    → IsBalanced ms [] → mark_words ms ≡ words_at bytes tokens → IsBuilding bytes ms tokens 0 0 builder
 building_first bytes ms tokens builder b o bal s = record {
   within = omega arith;
   built = b (labelled ms (lexemes_at bytes tokens));
@@ -40,7 +42,10 @@ split_at (x ∷ xs) (suc i) d l = split_at xs i d (omega (arith, l)) ∙ ap (λ 
 next_mark : (ms : List Mark) (place : ℕ) (d m : Mark) → place < length ms → get_or ms place d ≡ m → drop place ms ≡ m ∷ drop (place + 1) ms
 next_mark ms place d m l e = split_at ms place d l ∙ ap (λ x. x ∷ drop (place + 1) ms) e
 
-pub building_open : (bytes : List ℕ) (ms : List Mark) (tokens : List Token) (place next : ℕ) (old new : Builder) (d : Mark) (p : Production) → place < length ms → get_or ms place d ≡ mark.Open p → IsBuilding bytes ms tokens place next old → Adds (begin p) old new → opened new ≡ p ∷ opened old → IsBuilding bytes ms tokens (place + 1) next new
+pub building_open :
+    (bytes : List ℕ) (ms : List Mark) (tokens : List Token) (place next : ℕ) (old new : Builder) (d : Mark) (p : Production) → place < length ms
+    → get_or ms place d ≡ mark.Open p → IsBuilding bytes ms tokens place next old → Adds (begin p) old new → opened new ≡ p ∷ opened old
+    → IsBuilding bytes ms tokens (place + 1) next new
 building_open bytes ms tokens place next old new d p l e b a o =
     let s : drop place ms ≡ mark.Open p ∷ drop (place + 1) ms = next_mark ms place d (mark.Open p) l e in
     let ls = lexemes_at bytes (drop next tokens) in
@@ -55,18 +60,23 @@ some_open : (ms : List Mark) (p : Production) (ps : List Production) → IsBalan
 some_open ms p [] b e = b
 some_open ms p (q ∷ ps) b e = cc
 
-pub building_may_close : (bytes : List ℕ) (ms : List Mark) (tokens : List Token) (place next : ℕ) (old : Builder) (d : Mark) (p : Production) → place < length ms → get_or ms place d ≡ mark.Close p → IsBuilding bytes ms tokens place next old → opened old ≡ [] → ⊥
+pub building_may_close :
+    (bytes : List ℕ) (ms : List Mark) (tokens : List Token) (place next : ℕ) (old : Builder) (d : Mark) (p : Production) → place < length ms
+    → get_or ms place d ≡ mark.Close p → IsBuilding bytes ms tokens place next old → opened old ≡ [] → ⊥
 building_may_close bytes ms tokens place next old d p l e b o =
     some_open (drop (place + 1) ms) p (opened old) (subst (λ x. IsBalanced x (opened old)) (next_mark ms place d (mark.Close p) l e) b.balanced) o
 
 closes_first : (ms : List Mark) (p q : Production) (ps : List Production) → IsBalanced (mark.Close p ∷ ms) (q ∷ ps) → (q ≡ p) × IsBalanced ms ps
 closes_first ms p q ps b = b
 
-pub building_close : (bytes : List ℕ) (ms : List Mark) (tokens : List Token) (place next : ℕ) (old new : Builder) (d : Mark) (p : Production) → place < length ms → get_or ms place d ≡ mark.Close p → IsBuilding bytes ms tokens place next old → Ends old new → IsBuilding bytes ms tokens (place + 1) next new
+pub building_close :
+    (bytes : List ℕ) (ms : List Mark) (tokens : List Token) (place next : ℕ) (old new : Builder) (d : Mark) (p : Production) → place < length ms
+    → get_or ms place d ≡ mark.Close p → IsBuilding bytes ms tokens place next old → Ends old new → IsBuilding bytes ms tokens (place + 1) next new
 building_close bytes ms tokens place next old new d p l e b a =
     let s : drop place ms ≡ mark.Close p ∷ drop (place + 1) ms = next_mark ms place d (mark.Close p) l e in
     let ls = lexemes_at bytes (drop next tokens) in
-    let h : IsBalanced (mark.Close p ∷ drop (place + 1) ms) (a.production ∷ opened new) = subst (λ x. IsBalanced x (a.production ∷ opened new)) s (subst (IsBalanced (drop place ms)) a.opened b.balanced) in
+    let h : IsBalanced (mark.Close p ∷ drop (place + 1) ms) (a.production ∷ opened new) = subst (λ x. IsBalanced x (a.production ∷ opened new)) s
+    (subst (IsBalanced (drop place ms)) a.opened b.balanced) in
     let f = closes_first (drop (place + 1) ms) p a.production (opened new) h in
     record {
       within = omega arith;
@@ -87,12 +97,17 @@ some_token bytes [] (suc n) w ws e = absurd (clash w ws e)
 some_token bytes (t ∷ ts) zero w ws e = omega arith
 some_token bytes (t ∷ ts) (suc n) w ws e = omega (arith, some_token bytes ts n w ws e)
 
-pub building_has_token : (bytes : List ℕ) (ms : List Mark) (tokens : List Token) (place next : ℕ) (old : Builder) (d : Mark) (w : Word) → place < length ms → get_or ms place d ≡ mark.Token w → IsBuilding bytes ms tokens place next old → next < length tokens
+pub building_has_token :
+    (bytes : List ℕ) (ms : List Mark) (tokens : List Token) (place next : ℕ) (old : Builder) (d : Mark) (w : Word) → place < length ms
+    → get_or ms place d ≡ mark.Token w → IsBuilding bytes ms tokens place next old → next < length tokens
 building_has_token bytes ms tokens place next old d w l e b =
     let s : drop place ms ≡ mark.Token w ∷ drop (place + 1) ms = next_mark ms place d (mark.Token w) l e in
     some_token bytes tokens next w (mark_words (drop (place + 1) ms)) (sym (ap mark_words s) ∙ b.spelled)
 
-pub building_token : (bytes : List ℕ) (ms : List Mark) (tokens : List Token) (place next : ℕ) (old new : Builder) (d : Mark) (w : Word) (t : Token) (lexeme : Lexeme) → place < length ms → get_or ms place d ≡ mark.Token w → IsBuilding bytes ms tokens place next old → lexeme ≡ lexeme_at bytes (get_or tokens next t) → Adds (one lexeme) old new → opened new ≡ opened old → IsBuilding bytes ms tokens (place + 1) (next + 1) new
+pub building_token :
+    (bytes : List ℕ) (ms : List Mark) (tokens : List Token) (place next : ℕ) (old new : Builder) (d : Mark) (w : Word) (t : Token) (lexeme : Lexeme)
+    → place < length ms → get_or ms place d ≡ mark.Token w → IsBuilding bytes ms tokens place next old → lexeme ≡ lexeme_at bytes (get_or tokens next t)
+    → Adds (one lexeme) old new → opened new ≡ opened old → IsBuilding bytes ms tokens (place + 1) (next + 1) new
 building_token bytes ms tokens place next old new d w t lexeme l e b x a o =
     let s : drop place ms ≡ mark.Token w ∷ drop (place + 1) ms = next_mark ms place d (mark.Token w) l e in
     let u : drop next tokens ≡ get_or tokens next t ∷ drop (next + 1) tokens = split_at tokens next t (building_has_token bytes ms tokens place next old d w l e b) in
@@ -102,7 +117,9 @@ building_token bytes ms tokens place next old new d w t lexeme l e b x a o =
     let tail : mark_words (drop (place + 1) ms) ≡ words_at bytes (drop (next + 1) tokens) = cc in
     record {
       within = omega arith;
-      built = a.added (labelled (drop (place + 1) ms) ls) ∙ ap (λ y. built old (one y ∷ labelled (drop (place + 1) ms) ls)) x ∙ sym (ap (λ y. built old (labelled (drop place ms) (lexemes_at bytes y))) u ∙ ap (λ y. built old (labelled y (lexeme_at bytes k ∷ ls))) s) ∙ b.built;
+      built =
+          a.added (labelled (drop (place + 1) ms) ls) ∙ ap (λ y. built old (one y ∷ labelled (drop (place + 1) ms) ls)) x
+          ∙ sym (ap (λ y. built old (labelled (drop place ms) (lexemes_at bytes y))) u ∙ ap (λ y. built old (labelled y (lexeme_at bytes k ∷ ls))) s) ∙ b.built;
       balanced = subst (IsBalanced (drop (place + 1) ms)) (sym o) (let h : IsBalanced (mark.Token w ∷ drop (place + 1) ms) (opened old) = subst (λ y. IsBalanced y (opened old)) s b.balanced in h);
       spelled = tail;
     }
@@ -123,7 +140,9 @@ no_levels : (levels : List Level) → opened_onto levels [] ≡ [] → levels �
 no_levels [] e = refl
 no_levels (level ∷ levels) e = let h : level.production ∷ [] ≡ [] = opened_some levels (level.production ∷ []) e in cc
 
-pub building_last : (bytes : List ℕ) (ms : List Mark) (tokens : List Token) (place next : ℕ) (builder : Builder) → length ms ≤ place → IsBuilding bytes ms tokens place next builder → pieces (parts_of builder.parts.items) [] ≡ labelled ms (lexemes_at bytes tokens)
+pub building_last :
+    (bytes : List ℕ) (ms : List Mark) (tokens : List Token) (place next : ℕ) (builder : Builder) → length ms ≤ place
+    → IsBuilding bytes ms tokens place next builder → pieces (parts_of builder.parts.items) [] ≡ labelled ms (lexemes_at bytes tokens)
 building_last bytes ms tokens place next builder l b =
     let p : place ≡ length ms = omega (arith, l, b.within) in
     let s : drop place ms ≡ [] = ap (λ n. drop n ms) p ∙ drop_all ms in
@@ -154,7 +173,8 @@ marks_in-pieces (inner p i ps) rest = ap (λ x. mark.Open p ∷ x) (marks_in-pie
 lexemes_in-pieces : (ps : Parts) (rest : List Piece) → lexemes_in (pieces ps rest) ≡ lexemes ps ++ lexemes_in rest
 lexemes_in-pieces none rest = refl
 lexemes_in-pieces (token l ps) rest = ap (λ x. l ∷ x) (lexemes_in-pieces ps rest)
-lexemes_in-pieces (inner p i ps) rest = lexemes_in-pieces i (end p ∷ pieces ps rest) ∙ ap (λ x. lexemes i ++ x) (lexemes_in-pieces ps rest) ∙ sym (append_assoc (lexemes i) (lexemes ps) (lexemes_in rest))
+lexemes_in-pieces (inner p i ps) rest =
+    lexemes_in-pieces i (end p ∷ pieces ps rest) ∙ ap (λ x. lexemes i ++ x) (lexemes_in-pieces ps rest) ∙ sym (append_assoc (lexemes i) (lexemes ps) (lexemes_in rest))
 
 abbrev pub words_of_lexemes : List Lexeme → List Word
 words_of_lexemes ls = map word_of ls
@@ -193,7 +213,9 @@ words_same bytes (t ∷ ts) = ap (λ x. word_of (lexeme_at bytes t) ∷ x) (word
 pub built_marks : (bytes : List ℕ) (tokens : List Token) (ms : List Mark) (ps : Parts) → pieces ps [] ≡ labelled ms (lexemes_at bytes tokens) → mark_words ms ≡ words_at bytes tokens → marks ps [] ≡ ms
 built_marks bytes tokens ms ps e w = sym (marks_in-pieces ps []) ∙ ap marks_in e ∙ marks_in-labelled ms (lexemes_at bytes tokens) (w ∙ words_same bytes tokens)
 
-pub built_lexemes : (bytes : List ℕ) (tokens : List Token) (ms : List Mark) (ps : Parts) → pieces ps [] ≡ labelled ms (lexemes_at bytes tokens) → mark_words ms ≡ words_at bytes tokens → lexemes ps ≡ lexemes_at bytes tokens
+pub built_lexemes :
+    (bytes : List ℕ) (tokens : List Token) (ms : List Mark) (ps : Parts) → pieces ps [] ≡ labelled ms (lexemes_at bytes tokens)
+    → mark_words ms ≡ words_at bytes tokens → lexemes ps ≡ lexemes_at bytes tokens
 built_lexemes bytes tokens ms ps e w = sym (lexemes_nil (lexemes ps)) ∙ sym (lexemes_in-pieces ps []) ∙ ap lexemes_in e ∙ lexemes_in-labelled ms (lexemes_at bytes tokens) (w ∙ words_same bytes tokens)
 
 words_join : (a b : List Lexeme) → words_of_lexemes (a ++ b) ≡ words_of_lexemes a ++ words_of_lexemes b

@@ -21,7 +21,10 @@ use Rattle.dps_syntax.specs.Tree.{word_of}
 use Rattle.dps_syntax.specs.Files.{lexeme_at, words_at}
 use Rattle.dps_syntax.specs.Spans.{IsSpan}
 
-pub one_more_word : (bytes : List ℕ) (tokens : List Token) (i : ℕ) (d : Token) (w : Word) (before after : List Word) → i < length tokens → w ≡ word_of (lexeme_at bytes (get_or tokens i d)) → after ≡ before ++ w ∷ [] → before ≡ words_at bytes (take i tokens) → after ≡ words_at bytes (take (i + 1) tokens)
+pub one_more_word :
+    (bytes : List ℕ) (tokens : List Token) (i : ℕ) (d : Token) (w : Word) (before after : List Word) → i < length tokens
+    → w ≡ word_of (lexeme_at bytes (get_or tokens i d)) → after ≡ before ++ w ∷ [] → before ≡ words_at bytes (take i tokens)
+    → after ≡ words_at bytes (take (i + 1) tokens)
 one_more_word bytes tokens i d w before after l e a b =
     let word : Token → Word = λ token. word_of (lexeme_at bytes token) in
     let more : take (i + 1) tokens ≡ take i tokens ++ get_or tokens i d ∷ [] = rw add-one (take-suc tokens i d l) in

@@ -13,3 +13,4 @@ pub mod Whole
 pub mod OneTree
 pub mod SomeFile
 pub mod FirstFaults
+pub mod Declarations

@@ -29,7 +29,10 @@ SameWalk ss ms ns = Walks ss ns → mark_words ms ≡ mark_words ns → ms ≡ n
 next_of : (k : Word) (ts us : List Word) → us ≡ k ∷ ts → NextIs (Some k) us
 next_of k ts us e = subst (NextIs (Some k)) (sym e) refl
 
-same_items : (p : Production) (items others ss : List Symbol) (ms ns : List Mark) → IsOneOf (alternatives p) items → IsOneOf (alternatives p) others → Walks (items ++ Close p ∷ ss) ms → Walks (others ++ Close p ∷ ss) ns → (ws us : List Word) → mark_words ms ≡ ws → mark_words ns ≡ us → (k : Word) (ts vs : List Word) → ws ≡ k ∷ ts → us ≡ k ∷ vs → others ≡ items
+same_items :
+    (p : Production) (items others ss : List Symbol) (ms ns : List Mark) → IsOneOf (alternatives p) items → IsOneOf (alternatives p) others
+    → Walks (items ++ Close p ∷ ss) ms → Walks (others ++ Close p ∷ ss) ns → (ws us : List Word) → mark_words ms ≡ ws → mark_words ns ≡ us
+    → (k : Word) (ts vs : List Word) → ws ≡ k ∷ ts → us ≡ k ∷ vs → others ≡ items
 same_items p items others ss ms ns o q d e ws us a b k ts vs f g =
     let first : chosen (alternatives p) k ≡ Some items = row_of p items ss ms k ts o (a ∙ f) d in
     let second : chosen (alternatives p) k ≡ Some others = row_of p others ss ns k vs q (b ∙ g) e in
@@ -54,7 +57,9 @@ unique (inner {p} {ss} {ms} items o d) ns g e =
     let items_same : h.2 ≡ items = by_words (mark_words ms) refl h.0 h.2 h.3 h.4 same in
     ap (λ x. mark.Open p ∷ x) (unique d h.0 (subst (λ x. Walks (x ++ Close p ∷ ss) h.0) items_same h.4) same) ∙ sym h.1
   where
-    by_words : (ws : List Word) → mark_words ms ≡ ws → (rest : List Mark) (others : List Symbol) → IsOneOf (alternatives p) others → Walks (others ++ Close p ∷ ss) rest → mark_words ms ≡ mark_words rest → others ≡ items
+    by_words :
+        (ws : List Word) → mark_words ms ≡ ws → (rest : List Mark) (others : List Symbol) → IsOneOf (alternatives p) others
+        → Walks (others ++ Close p ∷ ss) rest → mark_words ms ≡ mark_words rest → others ≡ items
     by_words [] a rest others q f s = never_empty p items ss ms o d a
     by_words (k ∷ ts) a rest others q f s = same_items p items others ss ms rest o q d f (mark_words ms) (mark_words rest) refl refl k ts ts a (sym s ∙ a)
 unique (close {p} {ss} {ms} d) ns g e =
@@ -129,7 +134,10 @@ one_tree trees others d e l =
 
 -- the depths of two walks agree as far as their words do
 
-pub depths_agree : {ss : List Symbol} {ms : List Mark} → Walks ss ms → (ns : List Mark) → Walks ss ns → (front us vs : List Word) (k : Word) (d : ℕ) → mark_words ms ≡ front ++ k ∷ us → mark_words ns ≡ front ++ k ∷ vs → slice_get (mark_depths d ms) (length front) ≡ slice_get (mark_depths d ns) (length front)
+pub depths_agree :
+    {ss : List Symbol} {ms : List Mark} → Walks ss ms → (ns : List Mark) → Walks ss ns → (front us vs : List Word) (k : Word) (d : ℕ)
+    → mark_words ms ≡ front ++ k ∷ us → mark_words ns ≡ front ++ k ∷ vs
+    → slice_get (mark_depths d ms) (length front) ≡ slice_get (mark_depths d ns) (length front)
 depths_agree done ns g front us vs k d e f = absurd (clash front e)
   where
     clash : (front : List Word) → [] ≡ front ++ k ∷ us → ⊥
@@ -210,7 +218,8 @@ file_or_fault text trees place fault.TooDeep s f =
     let h = split_text text place f.0 f.1 in
     let deep = f.2 in
     let front = take place text in
-    let agree = depths_agree (walk_of trees s.file.derived) (marks deep.trees []) (walk_of deep.trees deep.file.derived) front h.0 deep.more f.0 0 (walk_words trees ∙ s.file.spelled ∙ h.1) (walk_words deep.trees ∙ deep.file.spelled) in
+    let agree = depths_agree (walk_of trees s.file.derived) (marks deep.trees []) (walk_of deep.trees deep.file.derived) front h.0 deep.more f.0 0 (walk_words trees ∙ s.file.spelled ∙ h.1)
+    (walk_words deep.trees ∙ deep.file.spelled) in
     let found : slice_get (depths 0 trees) (length front) ≡ Some deep.depth =
     ap (λ ds. slice_get ds (length front)) (sym (depths_of trees)) ∙ agree ∙ ap (λ ds. slice_get ds (length front)) (depths_of deep.trees) ∙ deep.stands in
     not_deep (depths 0 trees) (length front) deep.depth s.shallow found deep.deep

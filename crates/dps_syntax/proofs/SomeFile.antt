@@ -1,5 +1,6 @@
 -- Each list of words is that of a file, or has a first fault.
-use Rattle.std.proofs.Common.{◌≡◌, ℕ, ◌<◌, ◌≤◌, true, false, List, [], ◌∷◌, ◌++◌, Option, Some, None, ◌⊎◌, length, take, slice_get, refl, ap, sym, ◌∙◌, subst, inl, inr, arith, zero, suc, append_assoc, append-nil}
+use Rattle.std.proofs.Common.{◌≡◌, ℕ, ◌<◌, ◌≤◌, true, false, List, [], ◌∷◌, ◌++◌, Option, Some, None, ◌⊎◌}
+use Rattle.std.proofs.Common.{length, take, slice_get, refl, ap, sym, ◌∙◌, subst, inl, inr, arith, zero, suc, append_assoc, append-nil}
 use Rattle.dps_lex.specs.declared.vocabulary.FaultKind.{FaultKind}
 use Rattle.dps_lex.specs.declared.vocabulary.FaultKind.TheVariants.{UnexpectedToken, UnexpectedEnd, TooDeep}
 use Rattle.dps_syntax.specs.declared.grammar.Word.{Word}
@@ -37,14 +38,18 @@ extend next a b made f (refuses r) = refuses (through next a b made f r)
 abbrev Later : ℕ → Option Word → Type 0
 Later n next = (new : List Symbol) → wait new < n → calm new ≡ true → Turned next new
 
-turn_row : (n : ℕ) (k : Word) (p : Production) (ss : List Symbol) → rank p < suc n → calm (Inner p ∷ ss) ≡ true → Later n (Some k) → (o : Option (List Symbol)) → chosen (alternatives p) k ≡ o → Turned (Some k) (Inner p ∷ ss)
+turn_row :
+    (n : ℕ) (k : Word) (p : Production) (ss : List Symbol) → rank p < suc n → calm (Inner p ∷ ss) ≡ true → Later n (Some k) → (o : Option (List Symbol))
+    → chosen (alternatives p) k ≡ o → Turned (Some k) (Inner p ∷ ss)
 turn_row n k p ss l c later None e = refuses (row_stuck k p ss e)
 turn_row n k p ss l c later (Some items) e =
     let o = chosen_is (alternatives p) items k e in
     let w = wait_row p items (Close p ∷ ss) o in
     extend (Some k) (Inner p ∷ ss) (items ++ Close p ∷ ss) (mark.Open p ∷ []) (turns_row k p items ss e) (later (items ++ Close p ∷ ss) (omega (arith, w, l)) (calm_row p items ss o c))
 
-turn_more : (n : ℕ) (k : Word) (m : Option_of) (ss : List Symbol) → wait (More m ∷ ss) < suc n → calm (More m ∷ ss) ≡ true → Later n (Some k) → (begins_all (continuation m) k ≡ true) ⊎ (begins_all (continuation m) k ≡ false) → Turned (Some k) (More m ∷ ss)
+turn_more :
+    (n : ℕ) (k : Word) (m : Option_of) (ss : List Symbol) → wait (More m ∷ ss) < suc n → calm (More m ∷ ss) ≡ true → Later n (Some k)
+    → (begins_all (continuation m) k ≡ true) ⊎ (begins_all (continuation m) k ≡ false) → Turned (Some k) (More m ∷ ss)
 turn_more n k m ss l c later (inl b) =
     let w = wait_taken m ss in
     extend (Some k) (More m ∷ ss) (continuation m ++ ss) [] (turns_taken k m ss b) (later (continuation m ++ ss) (omega (arith, w, l)) (calm_taken m ss c))
@@ -107,7 +112,8 @@ le_or_lt (suc a) (suc b) = elim (le_or_lt a b) [ inl h ↦ inl (omega (arith, h)
 
 run : (rest front : List Word) (ss : List Symbol) (made : List Mark) → IsExact front ss made → HasFileOrFault (front ++ rest)
 run [] front ss made x = subst HasFileOrFault (sym (append-nil front)) (finish front ss made x (turn (suc (wait ss)) None ss (omega arith) x.calm))
-run (k ∷ rest) front ss made x = go (step k ss x.calm) (λ new more a h. subst HasFileOrFault (append_assoc front (k ∷ []) rest) (run rest (front ++ k ∷ []) new (made ++ more) (exact_more front ss new k made more x a h)))
+run (k ∷ rest) front ss made x =
+    go (step k ss x.calm) (λ new more a h. subst HasFileOrFault (append_assoc front (k ∷ []) rest) (run rest (front ++ k ∷ []) new (made ++ more) (exact_more front ss new k made more x a h)))
   where
     go : Step k ss → ((new : List Symbol) (more : List Mark) → Accepts k ss new more → held new ≤ deepest → HasFileOrFault (front ++ k ∷ rest)) → HasFileOrFault (front ++ k ∷ rest)
     go (stuck r) later = inr (length front, (UnexpectedToken, (k, get_behind front rest k, subst (λ f. IsUnexpected f k) (sym (take_front front (k ∷ rest))) (unexpected_of front ss made k x r))))

@@ -105,7 +105,9 @@ pub turned_first : (next : Option Word) (now : List Symbol) (before : List Mark)
 turned_first next now before c = record { made = []; split = sym (append_nil before); turns = turns_same next now; calm = c }
 
 -- one turn more
-step : (next : Option Word) (old now new from to : List Symbol) (before after last more : List Mark) → IsTurned next old now before after → now ≡ from → new ≡ to → last ≡ after ++ more → Turns next from to more → calm to ≡ true → IsTurned next old new before last
+step :
+    (next : Option Word) (old now new from to : List Symbol) (before after last more : List Mark) → IsTurned next old now before after → now ≡ from → new ≡ to
+    → last ≡ after ++ more → Turns next from to more → calm to ≡ true → IsTurned next old new before last
 step next old now new from to before after last more t f g e u c = record {
   made = t.made ++ more;
   split = e ∙ ap (λ x. x ++ more) t.split ∙ append_assoc before t.made more;
@@ -116,12 +118,18 @@ step next old now new from to before after last more t f g e u c = record {
 same_marks : (a : List Mark) → a ≡ a ++ []
 same_marks a = sym (append_nil a)
 
-pub go_close : (next : Option Word) (old now rest : List Symbol) (s : Symbol) (p : Production) (before after last : List Mark) → s ≡ Close p → now ≡ s ∷ rest → last ≡ after ++ mark.Close p ∷ [] → IsTurned next old now before after → IsTurned next old rest before last
+pub go_close :
+    (next : Option Word) (old now rest : List Symbol) (s : Symbol) (p : Production) (before after last : List Mark) → s ≡ Close p → now ≡ s ∷ rest
+    → last ≡ after ++ mark.Close p ∷ [] → IsTurned next old now before after → IsTurned next old rest before last
 go_close next old now rest s p before after last e n l t =
     let f : now ≡ Close p ∷ rest = n ∙ ap (λ x. x ∷ rest) e in
     step next old now rest (Close p ∷ rest) rest before after last (mark.Close p ∷ []) t f refl l (turns_close next p rest) (calm_behind (Close p) rest (ap calm (sym f) ∙ t.calm))
 
-pub go_row : (next : Option Word) (k : Word) (old now rest closed new items : List Symbol) (s : Symbol) (p : Production) (rows : List (List Symbol)) (before after last : List Mark) → next ≡ Some k → s ≡ Inner p → rows ≡ alternatives p → now ≡ s ∷ rest → chosen rows k ≡ Some items → closed ≡ Close p ∷ rest → new ≡ items ++ closed → last ≡ after ++ mark.Open p ∷ [] → IsTurned next old now before after → IsTurned next old new before last
+pub go_row :
+    (next : Option Word) (k : Word) (old now rest closed new items : List Symbol) (s : Symbol) (p : Production) (rows : List (List Symbol))
+    (before after last : List Mark)
+    → next ≡ Some k → s ≡ Inner p → rows ≡ alternatives p → now ≡ s ∷ rest → chosen rows k ≡ Some items → closed ≡ Close p ∷ rest → new ≡ items ++ closed
+    → last ≡ after ++ mark.Open p ∷ [] → IsTurned next old now before after → IsTurned next old new before last
 go_row next k old now rest closed new items s p rows before after last x e r n c d m l t =
     let f : now ≡ Inner p ∷ rest = n ∙ ap (λ y. y ∷ rest) e in
     let h : chosen (alternatives p) k ≡ Some items = ap (λ y. chosen y k) (sym r) ∙ c in
@@ -129,21 +137,28 @@ go_row next k old now rest closed new items s p rows before after last x e r n c
     (subst (λ y. Turns y (Inner p ∷ rest) (items ++ Close p ∷ rest) (mark.Open p ∷ [])) (sym x) (turns_row k p items rest h))
     (calm_row p items rest (chosen_is (alternatives p) items k h) (ap calm (sym f) ∙ t.calm))
 
-pub go_taken : (next : Option Word) (k : Word) (old now rest new items : List Symbol) (s : Symbol) (m : Option_of) (before after : List Mark) → next ≡ Some k → s ≡ More m → items ≡ continuation m → now ≡ s ∷ rest → true ≡ begins_all items k → new ≡ items ++ rest → IsTurned next old now before after → IsTurned next old new before after
+pub go_taken :
+    (next : Option Word) (k : Word) (old now rest new items : List Symbol) (s : Symbol) (m : Option_of) (before after : List Mark) → next ≡ Some k → s ≡ More m
+    → items ≡ continuation m → now ≡ s ∷ rest → true ≡ begins_all items k → new ≡ items ++ rest → IsTurned next old now before after
+    → IsTurned next old new before after
 go_taken next k old now rest new items s m before after x e i n b w t =
     let f : now ≡ More m ∷ rest = n ∙ ap (λ y. y ∷ rest) e in
     step next old now new (More m ∷ rest) (continuation m ++ rest) before after after [] t f (w ∙ ap (λ y. y ++ rest) i) (same_marks after)
     (subst (λ y. Turns y (More m ∷ rest) (continuation m ++ rest) []) (sym x) (turns_taken k m rest (ap (λ y. begins_all y k) (sym i) ∙ sym b)))
     (calm_taken m rest (ap calm (sym f) ∙ t.calm))
 
-pub go_left : (next : Option Word) (k : Word) (old now rest items : List Symbol) (s : Symbol) (m : Option_of) (before after : List Mark) → next ≡ Some k → s ≡ More m → items ≡ continuation m → now ≡ s ∷ rest → false ≡ begins_all items k → IsTurned next old now before after → IsTurned next old rest before after
+pub go_left :
+    (next : Option Word) (k : Word) (old now rest items : List Symbol) (s : Symbol) (m : Option_of) (before after : List Mark) → next ≡ Some k → s ≡ More m
+    → items ≡ continuation m → now ≡ s ∷ rest → false ≡ begins_all items k → IsTurned next old now before after → IsTurned next old rest before after
 go_left next k old now rest items s m before after x e i n b t =
     let f : now ≡ More m ∷ rest = n ∙ ap (λ y. y ∷ rest) e in
     step next old now rest (More m ∷ rest) rest before after after [] t f refl (same_marks after)
     (subst (λ y. Turns y (More m ∷ rest) rest []) (sym x) (turns_left k m rest (ap (λ y. begins_all y k) (sym i) ∙ sym b)))
     (calm_behind (More m) rest (ap calm (sym f) ∙ t.calm))
 
-pub go_left_end : (next : Option Word) (old now rest : List Symbol) (s : Symbol) (m : Option_of) (before after : List Mark) → next ≡ None → s ≡ More m → now ≡ s ∷ rest → IsTurned next old now before after → IsTurned next old rest before after
+pub go_left_end :
+    (next : Option Word) (old now rest : List Symbol) (s : Symbol) (m : Option_of) (before after : List Mark) → next ≡ None → s ≡ More m → now ≡ s ∷ rest
+    → IsTurned next old now before after → IsTurned next old rest before after
 go_left_end next old now rest s m before after x e n t =
     let f : now ≡ More m ∷ rest = n ∙ ap (λ y. y ∷ rest) e in
     step next old now rest (More m ∷ rest) rest before after after [] t f refl (same_marks after)
@@ -157,23 +172,34 @@ refused next old now before after t r = λ ms n d. (
     let h = t.turns.on ms n d in
     r h.0 (subst (NextIs next) (ap mark_words h.1 ∙ words_silent t.made h.0 t.turns.silent) n) h.2)
 
-pub stop_end : (next : Option Word) (old now rest : List Symbol) (s : Symbol) (p : Production) (before after : List Mark) → next ≡ None → s ≡ Inner p → now ≡ s ∷ rest → IsTurned next old now before after → Refuses next old
+pub stop_end :
+    (next : Option Word) (old now rest : List Symbol) (s : Symbol) (p : Production) (before after : List Mark) → next ≡ None → s ≡ Inner p → now ≡ s ∷ rest
+    → IsTurned next old now before after → Refuses next old
 stop_end next old now rest s p before after x e n t =
     refused next old now before after t (subst (Refuses next) (sym (n ∙ ap (λ y. y ∷ rest) e)) (subst (λ y. Refuses y (Inner p ∷ rest)) (sym x) (row_end_stuck p rest)))
 
-pub stop_row : (next : Option Word) (k : Word) (old now rest : List Symbol) (s : Symbol) (p : Production) (rows : List (List Symbol)) (before after : List Mark) → next ≡ Some k → s ≡ Inner p → rows ≡ alternatives p → now ≡ s ∷ rest → chosen rows k ≡ None → IsTurned next old now before after → Refuses next old
+pub stop_row :
+    (next : Option Word) (k : Word) (old now rest : List Symbol) (s : Symbol) (p : Production) (rows : List (List Symbol)) (before after : List Mark)
+    → next ≡ Some k → s ≡ Inner p → rows ≡ alternatives p → now ≡ s ∷ rest → chosen rows k ≡ None → IsTurned next old now before after → Refuses next old
 stop_row next k old now rest s p rows before after x e r n c t =
-    refused next old now before after t (subst (Refuses next) (sym (n ∙ ap (λ y. y ∷ rest) e)) (subst (λ y. Refuses y (Inner p ∷ rest)) (sym x) (row_stuck k p rest (ap (λ y. chosen y k) (sym r) ∙ c))))
+    refused next old now before after t
+    (subst (Refuses next) (sym (n ∙ ap (λ y. y ∷ rest) e)) (subst (λ y. Refuses y (Inner p ∷ rest)) (sym x) (row_stuck k p rest (ap (λ y. chosen y k) (sym r) ∙ c))))
 
-pub at_sign : (next : Option Word) (old now rest : List Symbol) (s : Symbol) (k : Word) (before after : List Mark) → s ≡ Sign k → now ≡ s ∷ rest → IsTurned next old now before after → (made : List Mark) × (after ≡ before ++ made) × Turns next old (Sign k ∷ rest) made × (calm rest ≡ true)
+pub at_sign :
+    (next : Option Word) (old now rest : List Symbol) (s : Symbol) (k : Word) (before after : List Mark) → s ≡ Sign k → now ≡ s ∷ rest
+    → IsTurned next old now before after → (made : List Mark) × (after ≡ before ++ made) × Turns next old (Sign k ∷ rest) made × (calm rest ≡ true)
 at_sign next old now rest s k before after e n t =
     let f : now ≡ Sign k ∷ rest = n ∙ ap (λ y. y ∷ rest) e in
     (t.made, t.split, subst (λ y. Turns next old y t.made) f t.turns, calm_behind (Sign k) rest (ap calm (sym f) ∙ t.calm))
 
-pub at_end : (next : Option Word) (old now : List Symbol) (before after : List Mark) → now ≡ [] → IsTurned next old now before after → (made : List Mark) × (after ≡ before ++ made) × Turns next old [] made
+pub at_end :
+    (next : Option Word) (old now : List Symbol) (before after : List Mark) → now ≡ [] → IsTurned next old now before after
+    → (made : List Mark) × (after ≡ before ++ made) × Turns next old [] made
 at_end next old now before after e t = (t.made, t.split, subst (λ y. Turns next old y t.made) e t.turns)
 
-pub wait_go : (k : Word) (now rest closed new items : List Symbol) (s : Symbol) (p : Production) (rows : List (List Symbol)) → s ≡ Inner p → rows ≡ alternatives p → now ≡ s ∷ rest → chosen rows k ≡ Some items → new ≡ items ++ closed → wait new < wait now
+pub wait_go :
+    (k : Word) (now rest closed new items : List Symbol) (s : Symbol) (p : Production) (rows : List (List Symbol)) → s ≡ Inner p → rows ≡ alternatives p
+    → now ≡ s ∷ rest → chosen rows k ≡ Some items → new ≡ items ++ closed → wait new < wait now
 wait_go k now rest closed new items s p rows e r n c m =
     let f : wait now ≡ rank p = ap wait (n ∙ ap (λ y. y ∷ rest) e) in
     let h = wait_row p items closed (chosen_is (alternatives p) items k (ap (λ y. chosen y k) (sym r) ∙ c)) in

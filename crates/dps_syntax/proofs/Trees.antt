@@ -34,7 +34,9 @@ depths-marks d (within p i ps) ms =
     ∙ sym (append_assoc (depths (d + own_depth p) i) (depths d ps) (mark_depths d ms))
 
 -- a derivation is a walk
-pub walk_before : {ss : List Symbol} {ps : Parts} {after : List Word} → Derives ss ps after → (rest : List Symbol) (ms : List Mark) → mark_words ms ≡ after → Walks rest ms → Walks (ss ++ rest) (marks ps ms)
+pub walk_before :
+    {ss : List Symbol} {ps : Parts} {after : List Word} → Derives ss ps after → (rest : List Symbol) (ms : List Mark) → mark_words ms ≡ after → Walks rest ms
+    → Walks (ss ++ rest) (marks ps ms)
 walk_before done rest ms e w = w
 walk_before (sign t d) rest ms e w = walk.sign t (walk_before d rest ms e w)
 walk_before (inner {p} {ss} {inside} {parts} {after} items o i d) rest ms e w =
@@ -130,7 +132,9 @@ split_behind (x ∷ xs) ss (y ∷ front) rest p a e =
 -- The marks are those of trees: of one list of them up to the first end of a production, and so on behind it.
 data Forest : List Symbol → List Mark → Type 0 where
   whole : {ss : List Symbol} {ms : List Mark} (ps : Parts) → ms ≡ marks ps [] → Derives ss ps [] → Forest ss ms
-  closed : {ss : List Symbol} {ms : List Mark} (front rest : List Symbol) (p : Production) (ps : Parts) (ns : List Mark) → ss ≡ front ++ Close p ∷ rest → ms ≡ marks ps (mark.Close p ∷ ns) → Derives front ps (mark_words ns) → Forest rest ns → Forest ss ms
+  closed :
+      {ss : List Symbol} {ms : List Mark} (front rest : List Symbol) (p : Production) (ps : Parts) (ns : List Mark) → ss ≡ front ++ Close p ∷ rest
+      → ms ≡ marks ps (mark.Close p ∷ ns) → Derives front ps (mark_words ns) → Forest rest ns → Forest ss ms
 
 sign_forest : (k w : Word) (ss : List Symbol) (ms : List Mark) → takes k w ≡ true → Forest ss ms → Forest (Sign k ∷ ss) (mark.Token w ∷ ms)
 sign_forest k w ss ms t (whole ps e d) =
@@ -139,16 +143,20 @@ sign_forest k w ss ms t (whole ps e d) =
     whole (token (lexeme_of w) ps) m (sign u d)
 sign_forest k w ss ms t (closed front rest p ps ns s e d f) =
     let u : takes k (word_of (lexeme_of w)) ≡ true = ap (takes k) (word-lexeme w) ∙ t in
-    let m : mark.Token w ∷ ms ≡ mark.Token (word_of (lexeme_of w)) ∷ marks ps (mark.Close p ∷ ns) = ap (λ x. mark.Token w ∷ x) e ∙ ap (λ x. mark.Token x ∷ marks ps (mark.Close p ∷ ns)) (sym (word-lexeme w)) in
+    let m : mark.Token w ∷ ms ≡ mark.Token (word_of (lexeme_of w)) ∷ marks ps (mark.Close p ∷ ns) = ap (λ x. mark.Token w ∷ x) e
+    ∙ ap (λ x. mark.Token x ∷ marks ps (mark.Close p ∷ ns)) (sym (word-lexeme w)) in
     closed (Sign k ∷ front) rest p (token (lexeme_of w) ps) ns (ap (λ x. Sign k ∷ x) s) m (sign u d) f
 
-inner_behind : (p : Production) (items ss : List Symbol) (ms ns : List Mark) (inside : Parts) → IsOneOf (alternatives p) items → ms ≡ marks inside (mark.Close p ∷ ns) → Derives items inside (mark_words ns) → Forest ss ns → Forest (Inner p ∷ ss) (mark.Open p ∷ ms)
+inner_behind :
+    (p : Production) (items ss : List Symbol) (ms ns : List Mark) (inside : Parts) → IsOneOf (alternatives p) items → ms ≡ marks inside (mark.Close p ∷ ns)
+    → Derives items inside (mark_words ns) → Forest ss ns → Forest (Inner p ∷ ss) (mark.Open p ∷ ms)
 inner_behind p items ss ms ns inside o e i (whole ps n d) =
     let next : mark_words ns ≡ words ps ++ [] = ap mark_words n ∙ words-marks ps [] in
     whole (within p inside ps) (ap (λ x. mark.Open p ∷ x) (e ∙ ap (λ x. marks inside (mark.Close p ∷ x)) n)) (inner items o (subst (Derives items inside) next i) d)
 inner_behind p items ss ms ns inside o e i (closed front rest q ps os s n d f) =
     let next : mark_words ns ≡ words ps ++ mark_words os = ap mark_words n ∙ words-marks ps (mark.Close q ∷ os) in
-    closed (Inner p ∷ front) rest q (within p inside ps) os (ap (λ x. Inner p ∷ x) s) (ap (λ x. mark.Open p ∷ x) (e ∙ ap (λ x. marks inside (mark.Close p ∷ x)) n)) (inner items o (subst (Derives items inside) next i) d) f
+    closed (Inner p ∷ front) rest q (within p inside ps) os (ap (λ x. Inner p ∷ x) s) (ap (λ x. mark.Open p ∷ x) (e ∙ ap (λ x. marks inside (mark.Close p ∷ x)) n))
+    (inner items o (subst (Derives items inside) next i) d) f
 
 inner_forest : (p : Production) (items ss : List Symbol) (ms : List Mark) → IsOneOf (alternatives p) items → Forest (items ++ Close p ∷ ss) ms → Forest (Inner p ∷ ss) (mark.Open p ∷ ms)
 inner_forest p items ss ms o (whole ps e d) =

@@ -15,7 +15,8 @@ use Rattle.dps_syntax.specs.Expected.{NextIs, Turns, Refuses}
 use Rattle.dps_syntax.specs.Depth.{own_depth}
 use Rattle.dps_syntax.specs.Marks.{mark_depths}
 use Rattle.dps_syntax.specs.Calm.{among, held}
-use Rattle.dps_syntax.proofs.Tables.{all, both, either, not_both, all_one, within, same_is, same_self, within_among, spelled, heads, heads_all, is_plain, rows_plain, more_plain, is_solid, disjoint, distinct, rows_distinct, rows_solid, rows_begin, more_solid}
+use Rattle.dps_syntax.proofs.Tables.{all, both, either, not_both, all_one, within, same_is, same_self, within_among, spelled, heads}
+use Rattle.dps_syntax.proofs.Tables.{heads_all, is_plain, rows_plain, more_plain, is_solid, disjoint, distinct, rows_distinct, rows_solid, rows_begin, more_solid}
 
 -- the token at the front begins the symbol
 abbrev pub Starts : Symbol → List Word → Type 0
@@ -64,7 +65,8 @@ pub begun : {ss : List Symbol} {ms : List Mark} → Walks ss ms → Begun ss (ma
 begun done = tt
 begun (sign {k} {w} t d) = sym (takes_among k w) ∙ t
 begun (inner {p} {ss} {ms} items o d) =
-    row_begun p items (Close p ∷ ss) (mark_words ms) (all_one is_solid (alternatives p) items (rows_solid p) o) (all_one (λ i. within (heads_all i) (firsts p)) (alternatives p) items (rows_begin p) o) (begun d)
+    row_begun p items (Close p ∷ ss) (mark_words ms) (all_one is_solid (alternatives p) items (rows_solid p) o)
+    (all_one (λ i. within (heads_all i) (firsts p)) (alternatives p) items (rows_begin p) o) (begun d)
 begun (close d) = tt
 begun (taken d) = tt
 begun (left g d) = tt
@@ -168,7 +170,9 @@ not_sign k ss (mark.Open j ∷ ms) d = elim d [ ]
 not_sign k ss (mark.Close j ∷ ms) d = elim d [ ]
 not_sign k ss [] d = elim d [ ]
 
-pub of_inner : (p : Production) (ss : List Symbol) (ms : List Mark) → Walks (Inner p ∷ ss) ms → (rest : List Mark) × (ms ≡ mark.Open p ∷ rest) × (items : List Symbol) × IsOneOf (alternatives p) items × Walks (items ++ Close p ∷ ss) rest
+pub of_inner :
+    (p : Production) (ss : List Symbol) (ms : List Mark) → Walks (Inner p ∷ ss) ms
+    → (rest : List Mark) × (ms ≡ mark.Open p ∷ rest) × (items : List Symbol) × IsOneOf (alternatives p) items × Walks (items ++ Close p ∷ ss) rest
 of_inner p ss (mark.Open q ∷ ms) (inner items o d) = (ms, refl, items, o, d)
 of_inner p ss (mark.Token q ∷ ms) d = elim d [ ]
 of_inner p ss (mark.Close q ∷ ms) d = elim d [ ]
@@ -185,7 +189,9 @@ of_more m ss ms (taken d) = inl d
 of_more m ss ms (left g d) = inr (g, d)
 
 -- the alternative of a tree is the one that its first token chooses
-pub row_of : (p : Production) (items ss : List Symbol) (ms : List Mark) (k : Word) (ts : List Word) → IsOneOf (alternatives p) items → mark_words ms ≡ k ∷ ts → Walks (items ++ Close p ∷ ss) ms → chosen (alternatives p) k ≡ Some items
+pub row_of :
+    (p : Production) (items ss : List Symbol) (ms : List Mark) (k : Word) (ts : List Word) → IsOneOf (alternatives p) items → mark_words ms ≡ k ∷ ts
+    → Walks (items ++ Close p ∷ ss) ms → chosen (alternatives p) k ≡ Some items
 row_of p items ss ms k ts o e d =
     let b = solid_begun items (Close p ∷ ss) k ts (all_one is_solid (alternatives p) items (rows_solid p) o) (subst (Begun (items ++ Close p ∷ ss)) e (begun d)) in
     chosen_only (alternatives p) items k (rows_distinct p) o b

@@ -19,7 +19,8 @@ use Rattle.dps_syntax.specs.Grammar.{Derives, file}
 use Rattle.dps_syntax.specs.Depth.{deepest, AreShallow, depths, Begins, IsFaultAt}
 use Rattle.dps_syntax.specs.Marks.{IsShallowWalk, mark_words}
 use Rattle.dps_syntax.specs.Built.{pieces, labelled, IsBalanced}
-use Rattle.dps_syntax.specs.Files.{lexeme_at, lexemes_at, words_at, AreFirstTokens, trees_of, HasItsKeyword, IsFileOfTokens, StandsAt, IsSyntaxFault, IsFileOfText, IsFirstFault, at_token, lexical, at_end}
+use Rattle.dps_syntax.specs.Files.{lexeme_at, lexemes_at, words_at, AreFirstTokens, trees_of, HasItsKeyword, IsFileOfTokens}
+use Rattle.dps_syntax.specs.Files.{StandsAt, IsSyntaxFault, IsFileOfText, IsFirstFault, at_token, lexical, at_end}
 use Rattle.dps_syntax.specs.Spans.{IsSpan, AreDeclarations}
 use Rattle.dps_syntax.proofs.Labels.{built_marks, built_lexemes, words_same, words_of_lexemes-lexemes}
 use Rattle.dps_syntax.proofs.Alike.{file_balanced, whole_of}
@@ -59,11 +60,16 @@ balanced_marks text ms w = file_balanced text ms w
 pub spelled_marks : (bytes : List ℕ) (tokens : List Token) (text : List Word) (ms : List Mark) → text ≡ words_at bytes tokens → IsShallowWalk text ms → mark_words ms ≡ words_at bytes tokens
 spelled_marks bytes tokens text ms e w = w.spelled ∙ e
 
-pub declared_parts : (bytes : List ℕ) (tokens : List Token) (text : List Word) (ms : List Mark) (ps : Parts) → text ≡ words_at bytes tokens → IsShallowWalk text ms → pieces ps [] ≡ labelled ms (lexemes_at bytes tokens) → AreDeclarations ps
+pub declared_parts :
+    (bytes : List ℕ) (tokens : List Token) (text : List Word) (ms : List Mark) (ps : Parts) → text ≡ words_at bytes tokens → IsShallowWalk text ms
+    → pieces ps [] ≡ labelled ms (lexemes_at bytes tokens) → AreDeclarations ps
 declared_parts bytes tokens text ms ps e w b =
     file_declares ps (whole_of text ms ps w (built_marks bytes tokens ms ps b (w.spelled ∙ e))).derived
 
-pub file_built : (bytes : List ℕ) (tokens : List Token) (text : List Word) (ms : List Mark) (ps : Parts) (found : File) → text ≡ words_at bytes tokens → IsShallowWalk text ms → pieces ps [] ≡ labelled ms (lexemes_at bytes tokens) → trees_of found.declarations.items ≡ ps → All HasItsKeyword found.declarations.items → IsFileOfTokens (lexemes_at bytes tokens) found
+pub file_built :
+    (bytes : List ℕ) (tokens : List Token) (text : List Word) (ms : List Mark) (ps : Parts) (found : File) → text ≡ words_at bytes tokens
+    → IsShallowWalk text ms → pieces ps [] ≡ labelled ms (lexemes_at bytes tokens) → trees_of found.declarations.items ≡ ps
+    → All HasItsKeyword found.declarations.items → IsFileOfTokens (lexemes_at bytes tokens) found
 file_built bytes tokens text ms ps found e w b t k =
     let whole = whole_of text ms ps w (built_marks bytes tokens ms ps b (w.spelled ∙ e)) in
     record {
@@ -80,10 +86,14 @@ pub ruleset for_file = (balanced_marks, spelled_marks, declared_parts, file_buil
 
 -- its first fault
 
-pub syntax_fault : (bytes : List ℕ) (tokens : List Token) (stop : Stop) (fault : Fault) → IsFaultAt (words_at bytes tokens) stop.place stop.kind → fault.kind ≡ stop.kind → StandsAt bytes tokens stop.place fault → IsSyntaxFault bytes tokens stop.place fault
+pub syntax_fault :
+    (bytes : List ℕ) (tokens : List Token) (stop : Stop) (fault : Fault) → IsFaultAt (words_at bytes tokens) stop.place stop.kind → fault.kind ≡ stop.kind
+    → StandsAt bytes tokens stop.place fault → IsSyntaxFault bytes tokens stop.place fault
 syntax_fault bytes tokens stop fault f k s = record { first = subst (IsFaultAt (words_at bytes tokens) stop.place) (sym k) f; stands = s }
 
-pub refused : (bytes : List ℕ) (tokens : List Token) (stop : Stop) (fault : Fault) → IsFaultAt (words_at bytes tokens) stop.place stop.kind → fault.kind ≡ stop.kind → StandsAt bytes tokens stop.place fault → (place : ℕ) × IsSyntaxFault bytes tokens place fault
+pub refused :
+    (bytes : List ℕ) (tokens : List Token) (stop : Stop) (fault : Fault) → IsFaultAt (words_at bytes tokens) stop.place stop.kind → fault.kind ≡ stop.kind
+    → StandsAt bytes tokens stop.place fault → (place : ℕ) × IsSyntaxFault bytes tokens place fault
 refused bytes tokens stop fault f k s = (stop.place, syntax_fault bytes tokens stop fault f k s)
 
 pub ruleset for_parse = (spans_of_first, refused)
@@ -95,10 +105,6 @@ fault_within text place fault.TooDeep f = let h = slice_get_within text place f.
 fault_within text place fault.UnexpectedEnd f = omega (arith, f.0)
 fault_within text place fault.BadByte f = absurd f
 fault_within text place _ f = absurd f
-
-take_whole : (xs : List Word) → take (length xs) xs ≡ xs
-take_whole [] = refl
-take_whole (x ∷ xs) = ap (λ t. x ∷ t) (take_whole xs)
 
 pub fault_behind : (text : List Word) (place : ℕ) (kind : FaultKind) → length text ≤ place → IsFaultAt text place kind → Begins text
 fault_behind text place fault.UnexpectedToken l f = let h = slice_get_within text place f.0 f.1 in absurd (omega (arith, h, l))
@@ -121,21 +127,32 @@ begins_with bytes tokens found f =
 pub text_found : (bytes : List ℕ) (tokens : List Token) (found : File) → IsReading bytes tokens None → IsFileOfTokens (lexemes_at bytes tokens) found → IsFileOfText bytes found
 text_found bytes tokens found r f = record { tokens = tokens; reading = r; file = f }
 
-pub lexical_found : (bytes : List ℕ) (tokens : List Token) (found : File) (fault : Fault) → IsReading bytes tokens (Some fault) → IsFileOfTokens (lexemes_at bytes tokens) found → IsFirstFault bytes fault
+pub lexical_found :
+    (bytes : List ℕ) (tokens : List Token) (found : File) (fault : Fault) → IsReading bytes tokens (Some fault) → IsFileOfTokens (lexemes_at bytes tokens) found
+    → IsFirstFault bytes fault
 lexical_found bytes tokens found fault r f = lexical tokens r (begins_with bytes tokens found f)
 
 pub ruleset for_read_file = (spans_of_all, text_found, lexical_found)
 
-pub at_token_found : (bytes : List ℕ) (tokens : List Token) (lexical_stop : Option Fault) (stop : Stop) (fault : Fault) → IsReading bytes tokens lexical_stop → stop.place < length tokens → IsFaultAt (words_at bytes tokens) stop.place stop.kind → fault.kind ≡ stop.kind → StandsAt bytes tokens stop.place fault → IsFirstFault bytes fault
+pub at_token_found :
+    (bytes : List ℕ) (tokens : List Token) (lexical_stop : Option Fault) (stop : Stop) (fault : Fault) → IsReading bytes tokens lexical_stop
+    → stop.place < length tokens → IsFaultAt (words_at bytes tokens) stop.place stop.kind → fault.kind ≡ stop.kind → StandsAt bytes tokens stop.place fault
+    → IsFirstFault bytes fault
 at_token_found bytes tokens lexical_stop stop fault r l f k s = at_token tokens lexical_stop stop.place r l (syntax_fault bytes tokens stop fault f k s)
 
 pub words_count : (bytes : List ℕ) (tokens : List Token) → length (words_at bytes tokens) ≡ length tokens
 words_count bytes tokens = length-map tokens (λ t. word_of (lexeme_at bytes t))
 
-pub behind_found : (bytes : List ℕ) (tokens : List Token) (last : Option Fault) (stop : Stop) (fault : Fault) → IsReading bytes tokens last → last ≡ Some fault → length tokens ≤ stop.place → IsFaultAt (words_at bytes tokens) stop.place stop.kind → IsFirstFault bytes fault
-behind_found bytes tokens last stop fault r e l f = lexical tokens (subst (IsReading bytes tokens) e r) (fault_behind (words_at bytes tokens) stop.place stop.kind (omega (arith, l, words_count bytes tokens)) f)
+pub behind_found :
+    (bytes : List ℕ) (tokens : List Token) (last : Option Fault) (stop : Stop) (fault : Fault) → IsReading bytes tokens last → last ≡ Some fault
+    → length tokens ≤ stop.place → IsFaultAt (words_at bytes tokens) stop.place stop.kind → IsFirstFault bytes fault
+behind_found bytes tokens last stop fault r e l f =
+    lexical tokens (subst (IsReading bytes tokens) e r) (fault_behind (words_at bytes tokens) stop.place stop.kind (omega (arith, l, words_count bytes tokens)) f)
 
-pub at_end_found : (bytes : List ℕ) (tokens : List Token) (last : Option Fault) (stop : Stop) (fault : Fault) → IsReading bytes tokens last → last ≡ None → length tokens ≤ stop.place → IsFaultAt (words_at bytes tokens) stop.place stop.kind → fault.kind ≡ stop.kind → StandsAt bytes tokens stop.place fault → IsFirstFault bytes fault
+pub at_end_found :
+    (bytes : List ℕ) (tokens : List Token) (last : Option Fault) (stop : Stop) (fault : Fault) → IsReading bytes tokens last → last ≡ None
+    → length tokens ≤ stop.place → IsFaultAt (words_at bytes tokens) stop.place stop.kind → fault.kind ≡ stop.kind → StandsAt bytes tokens stop.place fault
+    → IsFirstFault bytes fault
 at_end_found bytes tokens last stop fault r n l f k s =
     let e : stop.place ≡ length tokens = omega (arith, l, words_count bytes tokens, fault_within (words_at bytes tokens) stop.place stop.kind f) in
     at_end tokens (subst (IsReading bytes tokens) n r) (subst (λ n. IsSyntaxFault bytes tokens n fault) e (syntax_fault bytes tokens stop fault f k s))

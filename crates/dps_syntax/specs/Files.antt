@@ -71,7 +71,8 @@ pub record IsFileOfTokens (tokens : List Lexeme) (found : File) : Type 0 where
 
 -- The fault stands at the token with this index, or at the end of the text where there is no such token.
 abbrev pub StandsAt : List ℕ → List Token → ℕ → Fault → Type 0
-StandsAt bytes tokens place fault = MatchOption (slice_get tokens place) ((fault.line ≡ line_behind bytes) × (fault.column ≡ column_behind bytes)) (λ token. (fault.line ≡ token.line) × (fault.column ≡ token.column))
+StandsAt bytes tokens place fault =
+    MatchOption (slice_get tokens place) ((fault.line ≡ line_behind bytes) × (fault.column ≡ column_behind bytes)) (λ token. (fault.line ≡ token.line) × (fault.column ≡ token.column))
 
 -- The first fault of the tokens, at the token with this index or behind them.
 pub record IsSyntaxFault (bytes : List ℕ) (tokens : List Token) (place : ℕ) (fault : Fault) : Type 0 where

@@ -55,7 +55,8 @@ alternatives production.Rule =
     (sign_of token.Identifier ∷ sign_of token.OpenParenthesis ∷ Inner production.Term ∷ More more.Terms ∷ sign_of token.CloseParenthesis ∷ sign_of token.Arrow ∷ Inner production.Term ∷ []) ∷
     []
 alternatives production.Query =
-    (sign_of token.Query ∷ sign_of token.TraceEquiv ∷ sign_of token.OpenParenthesis ∷ Inner production.Par ∷ sign_of token.Comma ∷ Inner production.Par ∷ sign_of token.CloseParenthesis ∷ sign_of token.Dot ∷ []) ∷
+    (sign_of token.Query ∷ sign_of token.TraceEquiv ∷ sign_of token.OpenParenthesis ∷ Inner production.Par ∷ sign_of token.Comma ∷ Inner production.Par ∷ sign_of token.CloseParenthesis ∷ sign_of
+    token.Dot ∷ []) ∷
     []
 alternatives production.Par =
     (Inner production.Sum ∷ More more.Parallel ∷ []) ∷
@@ -156,8 +157,12 @@ IsOneOf (y ∷ ys) x = (x ≡ y) ⊎ IsOneOf ys x
 -- `else` belongs to the nearest `if` or `let` without one.
 pub data Derives : List Symbol → Parts → List Word → Type 0 where
   done : {after : List Word} → Derives [] none after
-  sign : {k : Word} {ss : List Symbol} {lexeme : Lexeme} {parts : Parts} {after : List Word} → takes k (word_of lexeme) ≡ true → Derives ss parts after → Derives (Sign k ∷ ss) (leaf lexeme parts) after
-  inner : {p : Production} {ss : List Symbol} {inside parts : Parts} {after : List Word} (items : List Symbol) → IsOneOf (alternatives p) items → Derives items inside (words parts ++ after) → Derives ss parts after → Derives (Inner p ∷ ss) (within p inside parts) after
+  sign :
+      {k : Word} {ss : List Symbol} {lexeme : Lexeme} {parts : Parts} {after : List Word} → takes k (word_of lexeme) ≡ true → Derives ss parts after
+      → Derives (Sign k ∷ ss) (leaf lexeme parts) after
+  inner :
+      {p : Production} {ss : List Symbol} {inside parts : Parts} {after : List Word} (items : List Symbol) → IsOneOf (alternatives p) items
+      → Derives items inside (words parts ++ after) → Derives ss parts after → Derives (Inner p ∷ ss) (within p inside parts) after
   taken : {m : Option_of} {ss : List Symbol} {parts : Parts} {after : List Word} → Derives (continuation m ++ ss) parts after → Derives (More m ∷ ss) parts after
   left : {m : Option_of} {ss : List Symbol} {parts : Parts} {after : List Word} → goes_on m (words parts ++ after) ≡ false → Derives ss parts after → Derives (More m ∷ ss) parts after
 

@@ -1,12 +1,12 @@
 -- What a reader may expect of files and their faults. Each of these statements is the contract of a function of the crate.
-use Rattle.std.specs.Prelude.{◌≡◌, ℕ, List, [], ◌⊎◌}
-use Rattle.std.specs.Prelude.{None}
+use Rattle.std.specs.Prelude.{◌≡◌, ℕ, List, [], ◌⊎◌, None, All}
 use Rattle.dps_lex.specs.Reading.{IsReading}
 use Rattle.dps_lex.specs.declared.vocabulary.Token.{Token}
 use Rattle.dps_lex.specs.declared.vocabulary.Fault.{Fault}
 use Rattle.dps_lex.specs.declared.vocabulary.FaultKind.{FaultKind}
-use Rattle.dps_syntax.specs.Files.{lexemes_at, IsFirstFault}
+use Rattle.dps_syntax.specs.Files.{lexemes_at, trees_of, HasItsKeyword, IsFirstFault}
 use Rattle.dps_syntax.specs.declared.grammar.Word.{Word}
+use Rattle.dps_syntax.specs.declared.tree.Decl.{Decl}
 use Rattle.dps_syntax.specs.Tree.{Parts, lexemes}
 use Rattle.dps_syntax.specs.Grammar.{Derives, file, IsFileOf}
 use Rattle.dps_syntax.specs.Depth.{AreShallow, depths, IsFaultAt}
@@ -47,3 +47,17 @@ EachTextIsFileOrHasFault = (bytes : List ℕ) → ((trees : Parts) × IsTreeOfTe
 -- No text is a file and has a first fault.
 abbrev pub NoTextIsFileAndHasFault : Type 0
 NoTextIsFileAndHasFault = (bytes : List ℕ) (trees : Parts) (fault : Fault) → IsTreeOfText bytes trees → IsFirstFault bytes fault → ⊥
+
+-- No text has two first faults.
+abbrev pub NoTextHasTwoFaults : Type 0
+NoTextHasTwoFaults = (bytes : List ℕ) (fault other : Fault) → IsFirstFault bytes fault → IsFirstFault bytes other → fault ≡ other
+
+-- The trees are those of declarations that begin with their keywords.
+pub record AreDeclared (trees : Parts) : Type 0 where
+  pub decls : List Decl
+  pub same : trees_of decls ≡ trees
+  pub keywords : All HasItsKeyword decls
+
+-- The trees of a text are those of declarations.
+abbrev pub TreesAreDeclared : Type 0
+TreesAreDeclared = (bytes : List ℕ) (trees : Parts) → IsTreeOfText bytes trees → AreDeclared trees

@@ -1,6 +1,6 @@
 //! Laws of files. Each is the contract of a function that does nothing, but for calls of such functions.
 
-ghost use Rattle.dps_syntax.specs.LawsOfFiles.{NoTokensHaveTwoTrees, NoWordsHaveFileAndFault, EachListHasFileOrFault, NoWordsHaveTwoFaults, EachTextIsFileOrHasFault, NoTextIsFileAndHasFault};
+ghost use Rattle.dps_syntax.specs.LawsOfFiles.{NoTokensHaveTwoTrees, NoWordsHaveFileAndFault, EachListHasFileOrFault, NoWordsHaveTwoFaults, EachTextIsFileOrHasFault, NoTextIsFileAndHasFault, NoTextHasTwoFaults, TreesAreDeclared};
 
 use dps_lex::{each_text_has_a_reading, no_text_has_two_readings};
 
@@ -37,3 +37,15 @@ pub fn no_text_is_file_and_has_fault()
 {
     no_text_has_two_readings();
 }
+
+/// No text has two first faults.
+pub fn no_text_has_two_faults()
+    ensures { NoTextHasTwoFaults }
+{
+    no_text_has_two_readings();
+}
+
+/// The trees of a text are those of declarations that begin with their keywords.
+pub fn trees_are_declared()
+    ensures { TreesAreDeclared }
+{}

@@ -20,8 +20,9 @@ mod tree;
 
 pub use grammar::{More, Production, Symbol, Word};
 pub use laws::{
-    each_list_has_file_or_fault, each_text_is_file_or_has_fault, no_text_is_file_and_has_fault,
-    no_tokens_have_two_trees, no_words_have_file_and_fault, no_words_have_two_faults,
+    each_list_has_file_or_fault, each_text_is_file_or_has_fault, no_text_has_two_faults,
+    no_text_is_file_and_has_fault, no_tokens_have_two_trees, no_words_have_file_and_fault,
+    no_words_have_two_faults, trees_are_declared,
 };
 pub use reading::{parse, read_file};
 pub use refusal::SyntaxRefusal;

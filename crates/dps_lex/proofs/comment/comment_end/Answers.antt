@@ -15,7 +15,25 @@ returns-then-depth-eq0 c =
     record {
       position = end.ensures.position;
       on = omega arith;
-      comment = nested_end bytes c.args.from.at at c.loop-position.depth (get_or bytes at 0) (get_or bytes (at + 1) 0) end.result.at (omega arith) (omega arith) refl refl c.if-byte-eq42.true c.if-next-eq41.true c.requires.opens c.loop-position.invariant.nested c.if-depth-eq0.true (omega arith);
+      comment =
+          nested_end
+          bytes
+          c.args.from.at
+          at
+          c.loop-position.depth
+          (get_or bytes at 0)
+          (get_or bytes (at + 1) 0)
+          end.result.at
+          (omega arith)
+          (omega arith)
+          refl
+          refl
+          c.if-byte-eq42.true
+          c.if-next-eq41.true
+          c.requires.opens
+          c.loop-position.invariant.nested
+          c.if-depth-eq0.true
+          (omega arith);
     }
 
 pub loop-position-preserved : goal.loop-position-preserved

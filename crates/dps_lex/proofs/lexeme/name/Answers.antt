@@ -10,4 +10,15 @@ pub front-text-requires : goal.front-text-requires
 front-text-requires c = run_within is_name_byte c.args.bytes.now c.name_len-len.result c.name_len-len.ensures
 
 pub returns : goal.returns
-returns c = name_token c.args.bytes.now c.front-text.result.now c.kind_of_name-kind.result c.name_len-len.result c.requires.some c.requires.letter c.name_len-len.ensures (omega arith) c.front-text.ensures c.kind_of_name-kind.ensures
+returns c =
+    name_token
+    c.args.bytes.now
+    c.front-text.result.now
+    c.kind_of_name-kind.result
+    c.name_len-len.result
+    c.requires.some
+    c.requires.letter
+    c.name_len-len.ensures
+    (omega arith)
+    c.front-text.ensures
+    c.kind_of_name-kind.ensures
