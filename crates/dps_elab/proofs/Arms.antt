@@ -1,5 +1,5 @@
 -- Processes written part by part.
-use Rattle.std.proofs.Common.{◌≡◌, ℕ, suc, ◌+◌, ◌-◌, ◌⊎◌, inl, inr, ◌<◌, ◌≤◌, max, List, [], ◌∷◌, ◌++◌, length, get_or, take, drop, refl, ap, sym, ◌∙◌, arith, subst, append_assoc}
+use Rattle.std.proofs.Common.{◌≡◌, ℕ, suc, ◌+◌, ◌-◌, ◌<◌, ◌≤◌, List, [], ◌∷◌, ◌++◌, length, take, refl, ap, sym, ◌∙◌, arith, subst}
 use Rattle.dps_terms.specs.Tree.{Tree, app, trees, var, node_count}
 use Rattle.dps_process.specs.Process as process
 use Rattle.dps_process.specs.Process.{Process, size, process_nodes}
@@ -9,147 +9,18 @@ use Rattle.dps_scopes.specs.declared.body.Step.{Step}
 use Rattle.dps_scopes.specs.declared.body.Step.TheVariants.{Project, Test}
 use Rattle.dps_scopes.specs.Body.{Body, bodies, nil, input, output, conditional, bind}
 use Rattle.dps_names.specs.Program.{Written}
-use Rattle.dps_elab.specs.Expansion.{Value, Numbers, Expansion, Expanding, made, value_at, value_of, channel_in, one_variable, with_terms, beside, taken_apart, and_copies, expansion_of}
-use Rattle.dps_elab.specs.Limits.{height, process_height}
+use Rattle.dps_elab.specs.Expansion.{Value, Numbers, Expansion, made, value_at, value_of, channel_in, one_variable, beside, taken_apart, and_copies, expansion_of}
 use Rattle.dps_elab.specs.Locals.{locals_from}
 use Rattle.dps_elab.specs.Turns.{written_in, joined, chain_of}
 use Rattle.dps_elab.specs.Writing.{numbers_of, IsAdded, IsWritten, IsTermWritten, IsChannelAdded, IsVariablePushed, IsNodeTaken, IsTooLargeTerm, IsTooLargeSide, taken_apart_in}
-use Rattle.dps_elab.specs.declared.found.PrivateUse.{PrivateUse}
-use Rattle.dps_elab.specs.declared.found.ChannelUse.{ChannelUse}
 use Rattle.dps_elab.specs.declared.local.Local.{Local}
-use Rattle.dps_elab.specs.declared.local.Local.TheVariants.{Variable}
 use Rattle.dps_elab.specs.declared.settle.Join.{Join}
 use Rattle.dps_elab.specs.declared.settle.Join.TheVariants.{ByParallel, ByChoice}
 use Rattle.dps_elab.specs.declared.settle.Scope.{Scope}
 use Rattle.dps_elab.specs.declared.writer.Writer.{Writer}
-use Rattle.std.proofs.lemmas.List.{append-nil, take_at, take-append-le}
-use Rattle.dps_elab.proofs.Turns.{locals_push}
-
--- one thing behind the other
-pub added_on : {a b c : Writer} {cs ds : List ChannelUse} {ps qs : List PrivateUse} {n m : Numbers} {j k : ℕ} → IsAdded a b cs ps n j → IsAdded b c ds qs m k → IsAdded a c (cs ++ ds) (ps ++ qs) m (j + k)
-added_on {a} {b} {c} {cs} {ds} {ps} {qs} {n} {m} {j} {k} x y = record {
-  channels_then = y.channels_then ∙ ap (λ zs. zs ++ ds) x.channels_then ∙ append_assoc a.channels.items cs ds;
-  privates_then = y.privates_then ∙ ap (λ zs. zs ++ qs) x.privates_then ∙ append_assoc a.privates.items ps qs;
-  numbers = y.numbers;
-  taken = omega (arith, x.taken, y.taken);
-}
-
-recast : {a b : Writer} {cs : List ChannelUse} {ps qs : List PrivateUse} {n : Numbers} {j k : ℕ} → IsAdded a b cs ps n j → ps ≡ qs → j ≡ k → IsAdded a b cs qs n k
-recast {a} {b} {cs} {ps} {qs} {n} {j} {k} x e h = record {
-  channels_then = x.channels_then;
-  privates_then = x.privates_then ∙ ap (λ zs. a.privates.items ++ zs) e;
-  numbers = x.numbers;
-  taken = omega (arith, x.taken);
-}
-
--- what a call says, from the stack and the numbers that there were before
-pub body_at : (scope : Scope) (a b : Writer) (depth : ℕ) (p : Body) (q : Process) (s : List Local) (n : Numbers) → IsWritten a b depth a.stack.items (written_in scope a.stack.items p (numbers_of a)) q → a.stack.items ≡ s → numbers_of a ≡ n → IsWritten a b depth s (written_in scope s p n) q
-body_at scope a b depth p q s n h e f =
-    let P : List Local → Type 0 = λ x. IsWritten a b depth x (written_in scope x p (numbers_of a)) q in
-    let Q : Numbers → Type 0 = λ x. IsWritten a b depth s (written_in scope s p x) q in
-    subst Q f (subst P e h)
-
-pub large_body_at : (scope : Scope) (a : Writer) (depth : ℕ) (p : Body) (s : List Local) (n : Numbers) → IsTooLargeSide a.room depth (written_in scope a.stack.items p (numbers_of a)).process → a.stack.items ≡ s → numbers_of a ≡ n → IsTooLargeSide a.room depth (written_in scope s p n).process
-large_body_at scope a depth p s n h e f =
-    let P : List Local → Type 0 = λ x. IsTooLargeSide a.room depth (written_in scope x p (numbers_of a)).process in
-    let Q : Numbers → Type 0 = λ x. IsTooLargeSide a.room depth (written_in scope s p x).process in
-    subst Q f (subst P e h)
-
-pub term_at : (first : ℕ) (a b : Writer) (depth : ℕ) (u : Written) (t : Tree) (s : List Local) → IsTermWritten a b depth (value_of (locals_from first a.stack.items) u) t → a.stack.items ≡ s → IsTermWritten a b depth (value_of (locals_from first s) u) t
-term_at first a b depth u t s h e = let P : List Local → Type 0 = λ x. IsTermWritten a b depth (value_of (locals_from first x) u) t in subst P e h
-
-pub large_term_at : (first : ℕ) (a : Writer) (depth : ℕ) (u : Written) (s : List Local) → IsTooLargeTerm a.room depth (value_of (locals_from first a.stack.items) u).tree → a.stack.items ≡ s → IsTooLargeTerm a.room depth (value_of (locals_from first s) u).tree
-large_term_at first a depth u s h e = let P : List Local → Type 0 = λ x. IsTooLargeTerm a.room depth (value_of (locals_from first x) u).tree in subst P e h
-
-pub fits_at : (scope : Scope) (a b : Writer) (depth : ℕ) (steps : List Step) (p q : Body) (f : Process) (outside : ℕ) (locals : List Value) (out : List Local) (n : Numbers)
-    → IsWritten a b depth (take outside a.stack.items) (taken_apart_in scope a.stack.items steps p q (take outside a.stack.items) (numbers_of a)) f
-    → locals_from scope.first a.stack.items ≡ locals → take outside a.stack.items ≡ out → numbers_of a ≡ n
-    → IsWritten a b depth out (taken_apart scope.private_names.now steps locals (expansion_of scope.private_names.now scope.definitions.now p) (written_in scope out q) n) f
-fits_at scope a b depth steps p q f outside locals out n h e o m =
-    let E : List Value → List Local → Numbers → Expansion = λ x y z. taken_apart scope.private_names.now steps x (expansion_of scope.private_names.now scope.definitions.now p) (written_in scope y q) z in
-    let P : List Value → Type 0 = λ x. IsWritten a b depth (take outside a.stack.items) (E x (take outside a.stack.items) (numbers_of a)) f in
-    let Q : List Local → Type 0 = λ y. IsWritten a b depth y (E locals y (numbers_of a)) f in
-    let R : Numbers → Type 0 = λ z. IsWritten a b depth out (E locals out z) f in
-    subst R m (subst Q o (subst P e h))
-
-pub large_fits_at : (scope : Scope) (a : Writer) (depth : ℕ) (steps : List Step) (p q : Body) (outside : ℕ) (locals : List Value) (out : List Local) (n : Numbers)
-    → IsTooLargeSide a.room depth (taken_apart_in scope a.stack.items steps p q (take outside a.stack.items) (numbers_of a)).process
-    → locals_from scope.first a.stack.items ≡ locals → take outside a.stack.items ≡ out → numbers_of a ≡ n
-    → IsTooLargeSide a.room depth (taken_apart scope.private_names.now steps locals (expansion_of scope.private_names.now scope.definitions.now p) (written_in scope out q) n).process
-large_fits_at scope a depth steps p q outside locals out n h e o m =
-    let E : List Value → List Local → Numbers → Expansion = λ x y z. taken_apart scope.private_names.now steps x (expansion_of scope.private_names.now scope.definitions.now p) (written_in scope y q) z in
-    let P : List Value → Type 0 = λ x. IsTooLargeSide a.room depth (E x (take outside a.stack.items) (numbers_of a)).process in
-    let Q : List Local → Type 0 = λ y. IsTooLargeSide a.room depth (E locals y (numbers_of a)).process in
-    let R : Numbers → Type 0 = λ z. IsTooLargeSide a.room depth (E locals out z).process in
-    subst R m (subst Q o (subst P e h))
-
--- two parts behind terms
-pub two_written : {w0 w v x : Writer} {below k : ℕ} {ps : List PrivateUse} {n : Numbers} {f o : Process} {left left2 : List Local} (depth : ℕ) (join : Process → Process → Process) (F : Expansion) (O : Expanding) (r : Process)
-    → IsAdded w0 w [] ps n k → IsWritten w v below left F f → IsWritten v x below left2 (O F.next) o → r ≡ join f o
-    → size (join F.process (O F.next).process) ≡ k + size F.process + size (O F.next).process → process_height (join F.process (O F.next).process) ≤ depth
-    → IsWritten w0 x depth left2 (with_terms ps (λ p. p) (beside join F O)) r
-two_written {w0} {w} {v} {x} {below} {k} {ps} {n} {f} {o} {left} {left2} depth join F O r h a b e s l = record {
-  same = e ∙ (λ i. join (a.same i) (b.same i));
-  stack = b.stack;
-  added = recast (added_on (added_on h a.added) b.added) (append_assoc ps F.privates (O F.next).privates) (sym s);
-  low = l;
-}
-
--- a part that is too large
-pub large_behind : {w0 w : Writer} {cs : List ChannelUse} {ps : List PrivateUse} {n : Numbers} {k : ℕ} (depth below : ℕ) (part whole : Process)
-    → IsAdded w0 w cs ps n k → below + 1 ≡ depth → IsTooLargeSide w.room below part → k + size part ≤ size whole → process_height part + 1 ≤ process_height whole → IsTooLargeSide w0.room depth whole
-large_behind {w0} {w} {cs} {ps} {n} {k} depth below part whole h d (inl a) s l = inl (omega (arith, h.taken))
-large_behind {w0} {w} {cs} {ps} {n} {k} depth below part whole h d (inr a) s l = inr (omega arith)
-
-pub large_term_behind : {w0 w : Writer} {cs : List ChannelUse} {ps : List PrivateUse} {n : Numbers} {k : ℕ} (depth below : ℕ) (t : Tree) (whole : Process)
-    → IsAdded w0 w cs ps n k → below + 1 ≡ depth → IsTooLargeTerm w.room below t → k + node_count t ≤ size whole → height t + 1 ≤ process_height whole → IsTooLargeSide w0.room depth whole
-large_term_behind {w0} {w} {cs} {ps} {n} {k} depth below t whole h d (inl a) s l = inl (omega (arith, h.taken))
-large_term_behind {w0} {w} {cs} {ps} {n} {k} depth below t whole h d (inr a) s l = inr (omega arith)
-
-joined_size : (join : Join) (p q : Process) → size (joined join p q) ≡ 1 + size p + size q
-joined_size ByParallel p q = omega arith
-joined_size ByChoice p q = omega arith
-
-joined_height : (join : Join) (p q : Process) → process_height (joined join p q) ≡ 1 + max (process_height p) (process_height q)
-joined_height ByParallel p q = refl
-joined_height ByChoice p q = refl
-
-some_node : (p : Process) → (0 < process_nodes p) × (0 < process_height p)
-some_node process.nil = (omega arith, omega arith)
-some_node (process.parallel p q) = (omega arith, omega arith)
-some_node (process.choice p q) = (omega arith, omega arith)
-some_node (process.conditional u v p q) = (omega arith, omega arith)
-some_node (process.bind x u p q) = (omega arith, omega arith)
-some_node (process.input c x p) = (omega arith, omega arith)
-some_node (process.output c u p) = (omega arith, omega arith)
-
--- where no node is left, every process is too large
-pub none_left : (room depth : ℕ) (p : Process) → (room ≡ 0) ⊎ (depth ≡ 0) → IsTooLargeSide room depth p
-none_left room depth p (inl e) = inl (omega (arith, (some_node p).0))
-none_left room depth p (inr e) = inr (omega (arith, (some_node p).1))
-
-pub head_tail : (ps : List Body) (p : Body) → 0 < length ps → p ≡ get_or ps 0 p → ps ≡ p ∷ drop 1 ps
-head_tail [] p h e = absurd (omega arith)
-head_tail (q ∷ ps) p h e = ap (λ x. x ∷ ps) (sym e)
-
--- a variable was put onto the stack
-pushed_stack : (w w3 : Writer) (s : List Local) (v : ℕ) → IsVariablePushed w w3 v → w.stack.items ≡ s → w3.stack.items ≡ s ++ Variable v ∷ []
-pushed_stack w w3 s v p e = p.stack ∙ ap (λ x. x ++ Variable v ∷ []) e
-
-pushed_number : (w w3 : Writer) (n : Numbers) (v : ℕ) → IsVariablePushed w w3 v → numbers_of w ≡ n → v ≡ n.variable
-pushed_number w w3 n v p e = p.variable_is ∙ ap (λ (x : Numbers). x.variable) e
-
-pushed_locals : (first : ℕ) (w w3 : Writer) (s : List Local) (n : Numbers) (v : ℕ) → first ≤ length s → IsVariablePushed w w3 v → w.stack.items ≡ s → numbers_of w ≡ n → locals_from first w3.stack.items ≡ locals_from first s ++ made (var n.variable) ∷ []
-pushed_locals first w w3 s n v h p e m = locals_push first s w3.stack.items (Variable v) h (pushed_stack w w3 s v p e) ∙ ap (λ k. locals_from first s ++ made (var k) ∷ []) (pushed_number w w3 n v p m)
-
-pushed_outside : (w w3 : Writer) (s : List Local) (v outside : ℕ) → outside ≤ length s → IsVariablePushed w w3 v → w.stack.items ≡ s → take outside w3.stack.items ≡ take outside s
-pushed_outside w w3 s v outside h p e = ap (take outside) (pushed_stack w w3 s v p e) ∙ take-append-le outside s (Variable v ∷ []) h
-
-pushed_whole : (w w3 : Writer) (s : List Local) (v outside : ℕ) → outside ≡ length w.stack.items → IsVariablePushed w w3 v → w.stack.items ≡ s → take outside w3.stack.items ≡ s
-pushed_whole w w3 s v outside h p e = ap (take outside) (pushed_stack w w3 s v p e) ∙ take_at s (Variable v ∷ []) outside (sym (h ∙ ap length e))
-
-pushed_numbers : (w w3 : Writer) (n : Numbers) (v : ℕ) → IsVariablePushed w w3 v → numbers_of w ≡ n → numbers_of w3 ≡ one_variable n
-pushed_numbers w w3 n v p e = p.added.numbers ∙ ap one_variable e
+use Rattle.std.proofs.lemmas.List.{append-nil}
+use Rattle.dps_elab.proofs.Behind.{added_on, recast, body_at, large_body_at, term_at, large_term_at, fits_at, large_fits_at, two_written}
+use Rattle.dps_elab.proofs.Behind.{large_behind, large_term_behind, joined_size, joined_height, pushed_number, pushed_locals, pushed_outside, pushed_whole, pushed_numbers}
 
 module _ (scope : Scope) (w0 w1 : Writer) (depth below : ℕ) (node : IsNodeTaken w0 w1 depth below) where
   abbrev names : List ℕ
@@ -187,7 +58,9 @@ module _ (scope : Scope) (w0 w1 : Writer) (depth below : ℕ) (node : IsNodeTake
           (large_body_at scope w3 below p before next h (sent.stack ∙ named.stack ∙ node.stack) (sent.added.numbers ∙ named.added.numbers ∙ node.added.numbers))
           (omega arith) (omega arith)
 
-      pub output_written : (w4 : Writer) (q r : Process) → IsWritten w3 w4 below w3.stack.items (written_in scope w3.stack.items p (numbers_of w3)) q → r ≡ process.output number t q → IsWritten w0 w4 depth before (here (output c u p)) r
+      pub output_written :
+          (w4 : Writer) (q r : Process) → IsWritten w3 w4 below w3.stack.items (written_in scope w3.stack.items p (numbers_of w3)) q
+          → r ≡ process.output number t q → IsWritten w0 w4 depth before (here (output c u p)) r
       output_written w4 q r h e =
           let k = body_at scope w3 w4 below p q before next h (sent.stack ∙ named.stack ∙ node.stack) (sent.added.numbers ∙ named.added.numbers ∙ node.added.numbers) in
           record {
@@ -206,7 +79,9 @@ module _ (scope : Scope) (w0 w1 : Writer) (depth below : ℕ) (node : IsNodeTake
     abbrev fitting : Expansion
     fitting = taken_apart names steps (locals ++ made (var next.variable) ∷ []) (expansion_of names scope.definitions.now p) (written_in scope before nil) (one_variable next)
 
-    pub input_large_fits : IsTooLargeSide w3.room below (taken_apart_in scope w3.stack.items steps p nil (take outside w3.stack.items) (numbers_of w3)).process → IsTooLargeSide w0.room depth (here (input c steps p)).process
+    pub input_large_fits :
+        IsTooLargeSide w3.room below (taken_apart_in scope w3.stack.items steps p nil (take outside w3.stack.items) (numbers_of w3)).process
+        → IsTooLargeSide w0.room depth (here (input c steps p)).process
     input_large_fits k =
         large_behind depth below fitting.process (here (input c steps p)).process (added_on (added_on node.added heard.added) pushed.added) node.deeper
         (large_fits_at scope w3 below steps p nil outside (locals ++ made (var next.variable) ∷ []) before (one_variable next) k
@@ -215,7 +90,10 @@ module _ (scope : Scope) (w0 w1 : Writer) (depth below : ℕ) (node : IsNodeTake
         (pushed_numbers w2 w3 next v pushed (named.added.numbers ∙ node.added.numbers)))
         (omega arith) (omega arith)
 
-    pub input_written : (w4 : Writer) (f r : Process) → IsWritten w3 w4 below (take outside w3.stack.items) (taken_apart_in scope w3.stack.items steps p nil (take outside w3.stack.items) (numbers_of w3)) f → r ≡ process.input number v f → IsWritten w0 w4 depth before (here (input c steps p)) r
+    pub input_written :
+        (w4 : Writer) (f r : Process)
+        → IsWritten w3 w4 below (take outside w3.stack.items) (taken_apart_in scope w3.stack.items steps p nil (take outside w3.stack.items) (numbers_of w3)) f
+        → r ≡ process.input number v f → IsWritten w0 w4 depth before (here (input c steps p)) r
     input_written w4 f r k e =
         let fits = fits_at scope w3 w4 below steps p nil f outside (locals ++ made (var next.variable) ∷ []) before (one_variable next) k
         (pushed_locals scope.first w2 w3 before next v h pushed (named.stack ∙ node.stack) (named.added.numbers ∙ node.added.numbers))
@@ -232,7 +110,8 @@ module _ (scope : Scope) (w0 w1 : Writer) (depth below : ℕ) (node : IsNodeTake
   module _ (u v : Written) (p q : Body) where
     pub conditional_large_first : IsTooLargeTerm w1.room below (value_of (locals_from scope.first w1.stack.items) u).tree → IsTooLargeSide w0.room depth (here (conditional u v p q)).process
     conditional_large_first h =
-        large_term_behind depth below (value_of locals u).tree (here (conditional u v p q)).process node.added node.deeper (large_term_at scope.first w1 below u before h node.stack) (omega arith) (omega arith)
+        large_term_behind depth below (value_of locals u).tree (here (conditional u v p q)).process node.added node.deeper (large_term_at scope.first w1 below u before h node.stack)
+        (omega arith) (omega arith)
 
     module _ (w2 : Writer) (t : Tree) (first : IsTermWritten w1 w2 below (value_of (locals_from scope.first w1.stack.items) u) t) where
       abbrev first_here : IsTermWritten w1 w2 below (value_of locals u) t
@@ -264,7 +143,9 @@ module _ (scope : Scope) (w0 w1 : Writer) (depth below : ℕ) (node : IsNodeTake
               (large_body_at scope w4 below q before (here p).next h fits_here.stack fits_here.added.numbers)
               (omega arith) (omega arith)
 
-          pub conditional_written : (w5 : Writer) (o x : Process) → IsWritten w4 w5 below w4.stack.items (written_in scope w4.stack.items q (numbers_of w4)) o → x ≡ process.conditional t r f o → IsWritten w0 w5 depth before (here (conditional u v p q)) x
+          pub conditional_written :
+              (w5 : Writer) (o x : Process) → IsWritten w4 w5 below w4.stack.items (written_in scope w4.stack.items q (numbers_of w4)) o
+              → x ≡ process.conditional t r f o → IsWritten w0 w5 depth before (here (conditional u v p q)) x
           conditional_written w5 o x h e =
               let other = body_at scope w4 w5 below q o before (here p).next h fits_here.stack fits_here.added.numbers in
               two_written depth (process.conditional (value_of locals u).tree (value_of locals v).tree) (here p) (written_in scope before q) x
@@ -276,9 +157,11 @@ module _ (scope : Scope) (w0 w1 : Writer) (depth below : ℕ) (node : IsNodeTake
   module _ (u : Written) (steps : List Step) (p q : Body) where
     pub bind_large_value : IsTooLargeTerm w1.room below (value_of (locals_from scope.first w1.stack.items) u).tree → IsTooLargeSide w0.room depth (here (bind u steps p q)).process
     bind_large_value h =
-        large_term_behind depth below (value_of locals u).tree (here (bind u steps p q)).process node.added node.deeper (large_term_at scope.first w1 below u before h node.stack) (omega arith) (omega arith)
+        large_term_behind depth below (value_of locals u).tree (here (bind u steps p q)).process node.added node.deeper (large_term_at scope.first w1 below u before h node.stack) (omega arith)
+        (omega arith)
 
-    module _ (w2 : Writer) (t : Tree) (value : IsTermWritten w1 w2 below (value_of (locals_from scope.first w1.stack.items) u) t) (w3 : Writer) (v outside : ℕ) (pushed : IsVariablePushed w2 w3 v) (h : scope.first ≤ length before) (o : outside ≡ length w2.stack.items) where
+    module _ (w2 : Writer) (t : Tree) (value : IsTermWritten w1 w2 below (value_of (locals_from scope.first w1.stack.items) u) t) (w3 : Writer) (v outside : ℕ)
+        (pushed : IsVariablePushed w2 w3 v) (h : scope.first ≤ length before) (o : outside ≡ length w2.stack.items) where
       abbrev value_here : IsTermWritten w1 w2 below (value_of locals u) t
       value_here = term_at scope.first w1 w2 below u t before value node.stack
 
@@ -288,7 +171,9 @@ module _ (scope : Scope) (w0 w1 : Writer) (depth below : ℕ) (node : IsNodeTake
       abbrev in_front : IsAdded w0 w3 [] (value_of locals u).privates (one_variable (numbers_of w2)) (1 + node_count (value_of locals u).tree)
       in_front = recast (added_on (added_on node.added value_here.added) pushed.added) (append-nil (value_of locals u).privates) (omega arith)
 
-      pub bind_large_fits : IsTooLargeSide w3.room below (taken_apart_in scope w3.stack.items steps p q (take outside w3.stack.items) (numbers_of w3)).process → IsTooLargeSide w0.room depth (here (bind u steps p q)).process
+      pub bind_large_fits :
+          IsTooLargeSide w3.room below (taken_apart_in scope w3.stack.items steps p q (take outside w3.stack.items) (numbers_of w3)).process
+          → IsTooLargeSide w0.room depth (here (bind u steps p q)).process
       bind_large_fits k =
           large_behind depth below matching.process (here (bind u steps p q)).process in_front node.deeper
           (large_fits_at scope w3 below steps p q outside (locals ++ made (var next.variable) ∷ []) before (one_variable next) k
@@ -297,7 +182,8 @@ module _ (scope : Scope) (w0 w1 : Writer) (depth below : ℕ) (node : IsNodeTake
           (pushed_numbers w2 w3 next v pushed (value.added.numbers ∙ node.added.numbers)))
           (omega arith) (omega arith)
 
-      module _ (w4 : Writer) (f : Process) (fits : IsWritten w3 w4 below (take outside w3.stack.items) (taken_apart_in scope w3.stack.items steps p q (take outside w3.stack.items) (numbers_of w3)) f) where
+      module _ (w4 : Writer) (f : Process)
+          (fits : IsWritten w3 w4 below (take outside w3.stack.items) (taken_apart_in scope w3.stack.items steps p q (take outside w3.stack.items) (numbers_of w3)) f) where
         abbrev match_here : IsWritten w3 w4 below before matching f
         match_here = fits_at scope w3 w4 below steps p q f outside (locals ++ made (var next.variable) ∷ []) before (one_variable next) fits
             (pushed_locals scope.first w2 w3 before next v h pushed (value.stack ∙ node.stack) (value.added.numbers ∙ node.added.numbers))
@@ -310,7 +196,9 @@ module _ (scope : Scope) (w0 w1 : Writer) (depth below : ℕ) (node : IsNodeTake
             (large_body_at scope w4 below q before matching.next k match_here.stack match_here.added.numbers)
             (omega arith) (omega arith)
 
-        pub bind_written : (w5 : Writer) (r x : Process) → IsWritten w4 w5 below w4.stack.items (written_in scope w4.stack.items q (numbers_of w4)) r → x ≡ process.bind v t f r → IsWritten w0 w5 depth before (here (bind u steps p q)) x
+        pub bind_written :
+            (w5 : Writer) (r x : Process) → IsWritten w4 w5 below w4.stack.items (written_in scope w4.stack.items q (numbers_of w4)) r
+            → x ≡ process.bind v t f r → IsWritten w0 w5 depth before (here (bind u steps p q)) x
         bind_written w5 r x k e =
             let other = body_at scope w4 w5 below q r before matching.next k match_here.stack match_here.added.numbers in
             two_written depth (process.bind next.variable (value_of locals u).tree) matching (written_in scope before q) x
@@ -339,7 +227,9 @@ module _ (scope : Scope) (w0 w1 : Writer) (depth below : ℕ) (node : IsNodeTake
     abbrev before_projection : IsAdded w0 w3 [] [] (one_variable (numbers_of w2)) (1 + node_count projected)
     before_projection = recast (added_on (added_on node.added projected_here.added) pushed.added) refl (omega arith)
 
-    pub project_large_fits : IsTooLargeSide w3.room below (taken_apart_in scope w3.stack.items steps p q (take outside w3.stack.items) (numbers_of w3)).process → IsTooLargeSide w0.room depth all_projected.process
+    pub project_large_fits :
+        IsTooLargeSide w3.room below (taken_apart_in scope w3.stack.items steps p q (take outside w3.stack.items) (numbers_of w3)).process
+        → IsTooLargeSide w0.room depth all_projected.process
     project_large_fits k =
         large_behind depth below behind_projection.process all_projected.process before_projection node.deeper
         (large_fits_at scope w3 below steps p q outside (locals ++ made (var next.variable) ∷ []) (take outside before) (one_variable next) k
@@ -348,7 +238,8 @@ module _ (scope : Scope) (w0 w1 : Writer) (depth below : ℕ) (node : IsNodeTake
         (pushed_numbers w2 w3 next v pushed (value.added.numbers ∙ node.added.numbers)))
         (omega arith) (omega arith)
 
-    module _ (w4 : Writer) (f : Process) (fits : IsWritten w3 w4 below (take outside w3.stack.items) (taken_apart_in scope w3.stack.items steps p q (take outside w3.stack.items) (numbers_of w3)) f) where
+    module _ (w4 : Writer) (f : Process)
+        (fits : IsWritten w3 w4 below (take outside w3.stack.items) (taken_apart_in scope w3.stack.items steps p q (take outside w3.stack.items) (numbers_of w3)) f) where
       abbrev rest_projected : IsWritten w3 w4 below (take outside before) behind_projection f
       rest_projected = fits_at scope w3 w4 below steps p q f outside (locals ++ made (var next.variable) ∷ []) (take outside before) (one_variable next) fits
           (pushed_locals scope.first w2 w3 before next v (omega arith) pushed (value.stack ∙ node.stack) (value.added.numbers ∙ node.added.numbers))
@@ -361,7 +252,9 @@ module _ (scope : Scope) (w0 w1 : Writer) (depth below : ℕ) (node : IsNodeTake
           (large_body_at scope w4 below q (take outside before) behind_projection.next k rest_projected.stack rest_projected.added.numbers)
           (omega arith) (omega arith)
 
-      pub project_written : (w5 : Writer) (r x : Process) → IsWritten w4 w5 below w4.stack.items (written_in scope w4.stack.items q (numbers_of w4)) r → x ≡ process.bind v t f r → IsWritten w0 w5 depth (take outside before) all_projected x
+      pub project_written :
+          (w5 : Writer) (r x : Process) → IsWritten w4 w5 below w4.stack.items (written_in scope w4.stack.items q (numbers_of w4)) r → x ≡ process.bind v t f r
+          → IsWritten w0 w5 depth (take outside before) all_projected x
       project_written w5 r x k e =
           let other = body_at scope w4 w5 below q r (take outside before) behind_projection.next k rest_projected.stack rest_projected.added.numbers in
           two_written depth (process.bind next.variable projected) behind_projection (written_in scope (take outside before) q) x
@@ -401,13 +294,16 @@ module _ (scope : Scope) (w0 w1 : Writer) (depth below : ℕ) (node : IsNodeTake
       abbrev before_test : IsAdded w0 w3 [] (value_of locals u).privates (numbers_of w2) (1 + node_count (value_at locals j).tree + node_count (value_of locals u).tree)
       before_test = added_on (added_on node.added tested_here.added) against.added
 
-      pub test_large_fits : IsTooLargeSide w3.room below (taken_apart_in scope w3.stack.items steps p q (take outside w3.stack.items) (numbers_of w3)).process → IsTooLargeSide w0.room depth all_tested.process
+      pub test_large_fits :
+          IsTooLargeSide w3.room below (taken_apart_in scope w3.stack.items steps p q (take outside w3.stack.items) (numbers_of w3)).process
+          → IsTooLargeSide w0.room depth all_tested.process
       test_large_fits k =
           large_behind depth below behind_test.process all_tested.process before_test node.deeper
           (large_fits_at scope w3 below steps p q outside locals (take outside before) next k (ap (locals_from scope.first) as_before) (ap (take outside) as_before) numbers_before)
           (omega arith) (omega arith)
 
-      module _ (w4 : Writer) (f : Process) (fits : IsWritten w3 w4 below (take outside w3.stack.items) (taken_apart_in scope w3.stack.items steps p q (take outside w3.stack.items) (numbers_of w3)) f) where
+      module _ (w4 : Writer) (f : Process)
+          (fits : IsWritten w3 w4 below (take outside w3.stack.items) (taken_apart_in scope w3.stack.items steps p q (take outside w3.stack.items) (numbers_of w3)) f) where
         abbrev rest_tested : IsWritten w3 w4 below (take outside before) behind_test f
         rest_tested = fits_at scope w3 w4 below steps p q f outside locals (take outside before) next fits (ap (locals_from scope.first) as_before) (ap (take outside) as_before) numbers_before
 
@@ -417,7 +313,9 @@ module _ (scope : Scope) (w0 w1 : Writer) (depth below : ℕ) (node : IsNodeTake
             (large_body_at scope w4 below q (take outside before) behind_test.next k rest_tested.stack rest_tested.added.numbers)
             (omega arith) (omega arith)
 
-        pub test_written : (w5 : Writer) (o x : Process) → IsWritten w4 w5 below w4.stack.items (written_in scope w4.stack.items q (numbers_of w4)) o → x ≡ process.conditional t r f o → IsWritten w0 w5 depth (take outside before) all_tested x
+        pub test_written :
+            (w5 : Writer) (o x : Process) → IsWritten w4 w5 below w4.stack.items (written_in scope w4.stack.items q (numbers_of w4)) o
+            → x ≡ process.conditional t r f o → IsWritten w0 w5 depth (take outside before) all_tested x
         test_written w5 o x k e =
             let other = body_at scope w4 w5 below q o (take outside before) behind_test.next k rest_tested.stack rest_tested.added.numbers in
             two_written depth (process.conditional (value_at locals j).tree (value_of locals u).tree) behind_test (written_in scope (take outside before) q) x
@@ -449,17 +347,22 @@ module _ (scope : Scope) (w0 w1 : Writer) (depth below : ℕ) (node : IsNodeTake
       abbrev first_part : IsWritten w1 w2 below before (here p) f
       first_part = body_at scope w1 w2 below p f before next first node.stack node.added.numbers
 
-      pub pair_large_last : IsTooLargeSide w2.room below (written_in scope w2.stack.items (chain_of join (bodies rest)) (numbers_of w2)).process → IsTooLargeSide w0.room depth (here (chain_of join (bodies parts))).process
+      pub pair_large_last :
+          IsTooLargeSide w2.room below (written_in scope w2.stack.items (chain_of join (bodies rest)) (numbers_of w2)).process
+          → IsTooLargeSide w0.room depth (here (chain_of join (bodies parts))).process
       pair_large_last k =
           let P : Expansion → Type 0 = λ e. IsTooLargeSide w0.room depth e.process in
           subst P (sym split)
-          (large_behind depth below (written_in scope before (chain_of join (bodies rest)) (here p).next).process (beside (joined join) (here p) (written_in scope before (chain_of join (bodies rest)))).process
+          (large_behind depth below (written_in scope before (chain_of join (bodies rest)) (here p).next).process
+          (beside (joined join) (here p) (written_in scope before (chain_of join (bodies rest)))).process
           (added_on node.added first_part.added) node.deeper
           (large_body_at scope w2 below (chain_of join (bodies rest)) before (here p).next k first_part.stack first_part.added.numbers)
           (omega (arith, joined_size join (here p).process (written_in scope before (chain_of join (bodies rest)) (here p).next).process))
           (omega (arith, joined_height join (here p).process (written_in scope before (chain_of join (bodies rest)) (here p).next).process)))
 
-      pub pair_written : (w3 : Writer) (o x : Process) → IsWritten w2 w3 below w2.stack.items (written_in scope w2.stack.items (chain_of join (bodies rest)) (numbers_of w2)) o → x ≡ joined join f o → IsWritten w0 w3 depth before (here (chain_of join (bodies parts))) x
+      pub pair_written :
+          (w3 : Writer) (o x : Process) → IsWritten w2 w3 below w2.stack.items (written_in scope w2.stack.items (chain_of join (bodies rest)) (numbers_of w2)) o
+          → x ≡ joined join f o → IsWritten w0 w3 depth before (here (chain_of join (bodies parts))) x
       pair_written w3 o x k e =
           let last = body_at scope w2 w3 below (chain_of join (bodies rest)) o before (here p).next k first_part.stack first_part.added.numbers in
           let P : Expansion → Type 0 = λ y. IsWritten w0 w3 depth before y x in

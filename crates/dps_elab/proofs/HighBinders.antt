@@ -6,7 +6,8 @@ use Rattle.dps_process.specs.Process.{Process, EachBinder}
 use Rattle.dps_scopes.specs.declared.body.Step.{Step}
 use Rattle.dps_scopes.specs.declared.body.Step.TheVariants.{Project, Test}
 use Rattle.dps_names.specs.Program.{Body, Bodies, nil, parallel, choice, copies, fresh, input, output, conditional, bind, call, none, more, Definition, Program}
-use Rattle.dps_elab.specs.Expansion.{Value, Numbers, Expansion, Expanding, nothing, made, value_at, values_of, one_name, beside, and_copies, one_variable, taken_apart, called, expand, chain, chain_behind, meanings, left_expansion, right_expansion, private_names, first_numbers}
+use Rattle.dps_elab.specs.Expansion.{Value, Numbers, Expansion, Expanding, nothing, made, value_at, values_of, one_name, beside, and_copies}
+use Rattle.dps_elab.specs.Expansion.{one_variable, taken_apart, called, expand, chain, chain_behind, meanings, left_expansion, right_expansion, private_names, first_numbers}
 
 abbrev IsHigh : ℕ → Type 0
 IsHigh x = 2 ^ 63 ≤ x
@@ -19,12 +20,17 @@ pub record HasHigh (e : Expansion) : Type 0 where
 abbrev KeepsHigh : Expanding → Type 0
 KeepsHigh p = (next : Numbers) → IsHigh next.variable → HasHigh (p next)
 
-beside_high : (join : Process → Process → Process) (first : Expansion) (second : Expanding) → ((p q : Process) → EachBinder IsHigh p → EachBinder IsHigh q → EachBinder IsHigh (join p q)) → HasHigh first → KeepsHigh second → HasHigh (beside join first second)
+beside_high :
+    (join : Process → Process → Process) (first : Expansion) (second : Expanding)
+    → ((p q : Process) → EachBinder IsHigh p → EachBinder IsHigh q → EachBinder IsHigh (join p q)) → HasHigh first → KeepsHigh second
+    → HasHigh (beside join first second)
 beside_high join first second joins h k =
     let last = k first.next h.on in
     record { binders = joins first.process (second first.next).process h.binders last.binders; on = last.on }
 
-taken_high : (names : List ℕ) (steps : List Step) (locals : List Value) (fits : List Value → Expanding) (otherwise : Expanding) → ((ls : List Value) → KeepsHigh (fits ls)) → KeepsHigh otherwise → KeepsHigh (taken_apart names steps locals fits otherwise)
+taken_high :
+    (names : List ℕ) (steps : List Step) (locals : List Value) (fits : List Value → Expanding) (otherwise : Expanding)
+    → ((ls : List Value) → KeepsHigh (fits ls)) → KeepsHigh otherwise → KeepsHigh (taken_apart names steps locals fits otherwise)
 taken_high names [] locals fits otherwise f o next h = f locals next h
 taken_high names (Project g i ∷ steps) locals fits otherwise f o next h =
     beside_high (process.bind next.variable (app g (trees ((value_at locals i).tree ∷ []))))
@@ -64,24 +70,32 @@ module _ (names : List ℕ) (ms : List (List Value → Expanding)) (keep : AllKe
         let last = expand_high q locals (expand names ms p locals next).next k.on in
         record { binders = (k.binders, last.binders); on = last.on }
     expand_high (bind u steps p q) locals next h =
-        let k = taken_high names steps (locals ++ made (var next.variable) ∷ []) (expand names ms p) (expand names ms q locals) (expand_high p) (expand_high q locals) (one_variable next) (omega arith) in
+        let k = taken_high names steps (locals ++ made (var next.variable) ∷ []) (expand names ms p) (expand names ms q locals) (expand_high p) (expand_high q locals) (one_variable next)
+        (omega arith) in
         let last = expand_high q locals _ k.on in
         record { binders = (h, k.binders, last.binders); on = last.on }
     expand_high (call n arguments) locals next h = keep.each n (values_of locals arguments) next h
 
-    chain_high : (join : Process → Process → Process) → ((p q : Process) → EachBinder IsHigh p → EachBinder IsHigh q → EachBinder IsHigh (join p q)) → (ps : Bodies) (locals : List Value) → KeepsHigh (chain names ms join ps locals)
+    chain_high :
+        (join : Process → Process → Process) → ((p q : Process) → EachBinder IsHigh p → EachBinder IsHigh q → EachBinder IsHigh (join p q))
+        → (ps : Bodies) (locals : List Value) → KeepsHigh (chain names ms join ps locals)
     chain_high join joins none locals next h = nothing_high next h
     chain_high join joins (more p ps) locals next h = behind_high join joins (expand names ms p locals) (expand_high p locals) ps locals next h
 
-    behind_high : (join : Process → Process → Process) → ((p q : Process) → EachBinder IsHigh p → EachBinder IsHigh q → EachBinder IsHigh (join p q)) → (p : Expanding) → KeepsHigh p → (ps : Bodies) (locals : List Value) → KeepsHigh (chain_behind names ms join p ps locals)
+    behind_high :
+        (join : Process → Process → Process) → ((p q : Process) → EachBinder IsHigh p → EachBinder IsHigh q → EachBinder IsHigh (join p q)) → (p : Expanding)
+        → KeepsHigh p → (ps : Bodies) (locals : List Value) → KeepsHigh (chain_behind names ms join p ps locals)
     behind_high join joins p k none locals next h = k next h
     behind_high join joins p k (more q qs) locals next h =
-        beside_high join (p next) (chain_behind names ms join (expand names ms q locals) qs locals) joins (k next h) (behind_high join joins (expand names ms q locals) (expand_high q locals) qs locals)
+        beside_high join (p next) (chain_behind names ms join (expand names ms q locals) qs locals) joins (k next h)
+        (behind_high join joins (expand names ms q locals) (expand_high q locals) qs locals)
 
 keep_none : (names : List ℕ) → AllKeep names []
 keep_none names = record { each = λ k arguments. nothing_high }
 
-keep_more : (names : List ℕ) (ms : List (List Value → Expanding)) (m : List Value → Expanding) → ((arguments : List Value) → KeepsHigh (m arguments)) → AllKeep names ms → (k : ℕ) (arguments : List Value) → KeepsHigh (called names (ms ++ m ∷ []) k arguments)
+keep_more :
+    (names : List ℕ) (ms : List (List Value → Expanding)) (m : List Value → Expanding) → ((arguments : List Value) → KeepsHigh (m arguments)) → AllKeep names ms
+    → (k : ℕ) (arguments : List Value) → KeepsHigh (called names (ms ++ m ∷ []) k arguments)
 keep_more names [] m h keep zero arguments = h arguments
 keep_more names [] m h keep (suc k) arguments = nothing_high
 keep_more names (x ∷ ms) m h keep zero arguments = keep.each 0 arguments

@@ -24,7 +24,9 @@ named_last [] ds h = h
 named_last (c ∷ cs) ds h = named_last cs ds h.1
 
 -- where none is the first that is no declared name
-found_none : (c : ChannelUse) (cs : List ChannelUse) (b : Bool) → is_some c.name ≡ b → cond (not b) (Some c) (first_such is_no_channel cs) ≡ None → (is_some c.name ≡ true) × (first_such is_no_channel cs ≡ None)
+found_none :
+    (c : ChannelUse) (cs : List ChannelUse) (b : Bool) → is_some c.name ≡ b → cond (not b) (Some c) (first_such is_no_channel cs) ≡ None
+    → (is_some c.name ≡ true) × (first_such is_no_channel cs ≡ None)
 found_none c cs true e h = (e, h)
 found_none c cs false e h = absurd (none-some c (sym h))
 

@@ -11,7 +11,8 @@ use Rattle.dps_scopes.specs.declared.body.Step.{Step}
 use Rattle.dps_scopes.specs.declared.body.Step.TheVariants.{Project, Test}
 use Rattle.dps_names.specs.Program.{Body, Bodies, nil, parallel, choice, copies, fresh, input, output, conditional, bind, call, none, more, Definition}
 use Rattle.dps_names.specs.WellFormed.{TakesArguments, locals_behind, AreStepsOver, IsBodyOver, AreBodiesOver}
-use Rattle.dps_elab.specs.Expansion.{Value, Numbers, Expansion, Expanding, nothing, made, value_at, values_of, tree_in, one_name, beside, and_copies, one_variable, private_numbers, taken_apart, called, expand, chain, chain_behind, meanings}
+use Rattle.dps_elab.specs.Expansion.{Value, Numbers, Expansion, Expanding, nothing, made, value_at, values_of, tree_in, one_name}
+use Rattle.dps_elab.specs.Expansion.{beside, and_copies, one_variable, private_numbers, taken_apart, called, expand, chain, chain_behind, meanings}
 use Rattle.dps_elab.proofs.Scoped.{IsAround, IsScopedTerm, AreScoped, scoped_source, scoped_variable, scoped_instance, scoped_arguments, scoped_projection, no_locals, bound_local, named_local}
 use Rattle.dps_elab.proofs.LawfulChannels.{AreNamed, named_first, named_last, channel_within}
 
@@ -40,7 +41,9 @@ module _ (signature : Signature) where
     scope : (p q : Process) → IsScoped ys p → IsScoped xs q → IsScoped xs (join p q)
     channels : (p q : Process) → EachChannel IsThere p → EachChannel IsThere q → EachChannel IsThere (join p q)
 
-  beside_good : (xs ys : List ℕ) (join : Process → Process → Process) (first : Expansion) (second : Expanding) → Joins xs ys join → IsGood ys first → AreGood xs second → IsGood xs (beside join first second)
+  beside_good :
+      (xs ys : List ℕ) (join : Process → Process → Process) (first : Expansion) (second : Expanding) → Joins xs ys join → IsGood ys first → AreGood xs second
+      → IsGood xs (beside join first second)
   beside_good xs ys join first second joins h k =
       let last : Expansion = second first.next in
       let l : IsGood xs last = k first.next in
@@ -104,7 +107,10 @@ module _ (signature : Signature) where
   abbrev GoOnGood : ℕ → (List Value → Expanding) → Type 0
   GoOnGood n fits = (xs : List ℕ) (locals : List Value) → AreScoped signature xs n locals → AreGood xs (fits locals)
 
-  taken_good : (steps : List Step) (xs : List ℕ) (n : ℕ) (locals : List Value) (fits : List Value → Expanding) (otherwise : Expanding) → AreStepsOver signature n steps → AreScoped signature xs n locals → GoOnGood (locals_behind n steps) fits → AreGood xs otherwise → AreGood xs (taken_apart names steps locals fits otherwise)
+  taken_good :
+      (steps : List Step) (xs : List ℕ) (n : ℕ) (locals : List Value) (fits : List Value → Expanding) (otherwise : Expanding) → AreStepsOver signature n steps
+      → AreScoped signature xs n locals → GoOnGood (locals_behind n steps) fits → AreGood xs otherwise
+      → AreGood xs (taken_apart names steps locals fits otherwise)
   taken_good [] xs n locals fits otherwise s h f o next = f xs locals h next
   taken_good (Project g i ∷ steps) xs n locals fits otherwise s h f o next =
       let x : ℕ = next.variable in
@@ -180,12 +186,16 @@ module _ (signature : Signature) where
       expand_good (call k arguments) xs n locals b h next =
           all.each k xs (length arguments) (values_of locals arguments) b.1 (scoped_arguments signature xs n locals h arguments b.0) next
 
-      chain_good : (join : Process → Process → Process) (ps : Bodies) (xs : List ℕ) (n : ℕ) (locals : List Value) → Joins xs xs join → AreBodiesOver signature definitions n ps → AreScoped signature xs n locals → AreGood xs (chain names ms join ps locals)
+      chain_good :
+          (join : Process → Process → Process) (ps : Bodies) (xs : List ℕ) (n : ℕ) (locals : List Value) → Joins xs xs join
+          → AreBodiesOver signature definitions n ps → AreScoped signature xs n locals → AreGood xs (chain names ms join ps locals)
       chain_good join none xs n locals j b h next = nothing_good xs next
       chain_good join (more p ps) xs n locals j b h next =
           behind_good join (expand names ms p locals) ps xs n locals j (expand_good p xs n locals b.0 h) b.1 h next
 
-      behind_good : (join : Process → Process → Process) (p : Expanding) (ps : Bodies) (xs : List ℕ) (n : ℕ) (locals : List Value) → Joins xs xs join → AreGood xs p → AreBodiesOver signature definitions n ps → AreScoped signature xs n locals → AreGood xs (chain_behind names ms join p ps locals)
+      behind_good :
+          (join : Process → Process → Process) (p : Expanding) (ps : Bodies) (xs : List ℕ) (n : ℕ) (locals : List Value) → Joins xs xs join → AreGood xs p
+          → AreBodiesOver signature definitions n ps → AreScoped signature xs n locals → AreGood xs (chain_behind names ms join p ps locals)
       behind_good join p none xs n locals j g b h next = g next
       behind_good join p (more q qs) xs n locals j g b h next =
           beside_good xs xs join (p next) (chain_behind names ms join (expand names ms q locals) qs locals) j (g next)
@@ -204,7 +214,8 @@ module _ (signature : Signature) where
       → GoOnGood d.parameters m
       → AllGood before ms
       → (k : ℕ) (xs : List ℕ) (n : ℕ) (arguments : List Value) → TakesArguments (before ++ d ∷ []) k n → AreScoped signature xs n arguments → AreGood xs (called names (ms ++ m ∷ []) k arguments)
-  good_more [] [] d m e h all zero xs n arguments t s = h xs arguments (subst (λ (c : ℕ). AreScoped signature xs c arguments) (sym (ap (λ (c : Definition). c.parameters) (one_definition d t.0 t.1) ∙ t.2)) s)
+  good_more [] [] d m e h all zero xs n arguments t s =
+      h xs arguments (subst (λ (c : ℕ). AreScoped signature xs c arguments) (sym (ap (λ (c : Definition). c.parameters) (one_definition d t.0 t.1) ∙ t.2)) s)
   good_more [] [] d m e h all (suc k) xs n arguments t s = nothing_good xs
   good_more [] (x ∷ ms) d m e h all k xs n arguments t s = absurd (omega arith)
   good_more (b ∷ before) [] d m e h all k xs n arguments t s = absurd (omega arith)
@@ -228,5 +239,8 @@ module _ (signature : Signature) where
       (good_all (before ++ d ∷ []) ds (ms ++ m ∷ []) (omega (arith, length-append before (d ∷ []), length-append ms (m ∷ []))) rest (record { each = good_more before ms d m e good all }))
 
   -- a side without locals
-  pub side_good : (definitions : List Definition) (body : Body) → ((k : ℕ) (d : Definition) → slice_get definitions k ≡ Some d → IsBodyOver signature (take k definitions) d.parameters d.body) → IsBodyOver signature definitions 0 body → AreGood [] (expand names (meanings names [] definitions) body [])
+  pub side_good :
+      (definitions : List Definition) (body : Body)
+      → ((k : ℕ) (d : Definition) → slice_get definitions k ≡ Some d → IsBodyOver signature (take k definitions) d.parameters d.body)
+      → IsBodyOver signature definitions 0 body → AreGood [] (expand names (meanings names [] definitions) body [])
   side_good definitions body o b = expand_good definitions (meanings names [] definitions) (good_all [] definitions [] refl o good_none) body [] 0 [] b (no_locals signature [])

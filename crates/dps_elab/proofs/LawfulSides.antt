@@ -85,12 +85,16 @@ of_channels p q left right cs us (Some c) e = absurd (cc)
 of_channels p q left right cs us None e =
     let k = of_privates p q left right (first_such (λ u. is_channel cs u.name) us) e in (refl, k.0, k.1)
 
-of_limits : (b c : Bool) (at_left at_right : Place) (x : Expanded) (left right : Process) → cond b (refused at_left TooLarge) (cond c (refused at_right TooLarge) x) ≡ sides left right → (b ≡ false) × (c ≡ false) × (x ≡ sides left right)
+of_limits :
+    (b c : Bool) (at_left at_right : Place) (x : Expanded) (left right : Process)
+    → cond b (refused at_left TooLarge) (cond c (refused at_right TooLarge) x) ≡ sides left right → (b ≡ false) × (c ≡ false) × (x ≡ sides left right)
 of_limits true c at_left at_right x left right e = absurd (cc)
 of_limits false true at_left at_right x left right e = absurd (cc)
 of_limits false false at_left at_right x left right e = (refl, refl, e)
 
-written : (program : Program) (left right : Process) → expanded program ≡ sides left right → AreWritten (left_expansion program).process (right_expansion program).process left right ((left_expansion program).channels ++ (right_expansion program).channels)
+written :
+    (program : Program) (left right : Process) → expanded program ≡ sides left right
+    → AreWritten (left_expansion program).process (right_expansion program).process left right ((left_expansion program).channels ++ (right_expansion program).channels)
 written program left right e =
     let a : Expansion = left_expansion program in
     let b : Expansion = right_expansion program in
@@ -100,7 +104,9 @@ written program left right e =
     let l = of_channels a.process b.process left right cs us (first_such is_no_channel cs) k.2 in
     record { left_fits = k.0; right_fits = k.1; named = all_named cs l.0; left_is = l.1; right_is = l.2 }
 
-pub sides_are_lawful : (program : Program) (left right : Process) → IsWellFormed program → expanded program ≡ sides left right → IsLawfulSide program.signature left × IsLawfulSide program.signature right
+pub sides_are_lawful :
+    (program : Program) (left right : Process) → IsWellFormed program → expanded program ≡ sides left right
+    → IsLawfulSide program.signature left × IsLawfulSide program.signature right
 sides_are_lawful program left right w e =
     let a : Expansion = left_expansion program in
     let b : Expansion = right_expansion program in

@@ -1,4 +1,5 @@
 pub mod Arms
+pub mod Behind
 pub mod Checking
 pub mod HighBinders
 pub mod LawfulChannels
@@ -8,5 +9,3 @@ pub mod Scoped
 pub mod Stack
 pub mod Terms
 pub mod Turns
-pub mod Flaws
-pub mod Naming

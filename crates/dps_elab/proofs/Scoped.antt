@@ -67,7 +67,9 @@ module _ (signature : Signature) where
   pub wider_locals : (x : ℕ) (xs : List ℕ) (n : ℕ) (locals : List Value) → AreScoped xs n locals → AreScoped (x ∷ xs) n locals
   wider_locals x xs n locals h = record { count = h.count; each = λ i l. wider_term x xs (value_at locals i).tree (h.each i l) }
 
-  one_more : (xs : List ℕ) (locals : List Value) (v : Value) → ((i : ℕ) → i < length locals → IsScopedTerm xs (value_at locals i).tree) → IsScopedTerm xs v.tree → (i : ℕ) → i < length locals + 1 → IsScopedTerm xs (value_at (locals ++ v ∷ []) i).tree
+  one_more :
+      (xs : List ℕ) (locals : List Value) (v : Value) → ((i : ℕ) → i < length locals → IsScopedTerm xs (value_at locals i).tree) → IsScopedTerm xs v.tree
+      → (i : ℕ) → i < length locals + 1 → IsScopedTerm xs (value_at (locals ++ v ∷ []) i).tree
   one_more xs [] v h k zero l = k
   one_more xs [] v h k (suc i) l = absurd (omega arith)
   one_more xs (w ∷ locals) v h k zero l = h 0 (omega arith)

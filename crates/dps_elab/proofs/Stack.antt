@@ -1,6 +1,7 @@
 -- What stands on the stack of locals.
 use Rattle.std.proofs.Common.{◌≡◌, ℕ, ◌+◌, ◌-◌, ◌⊎◌, inl, inr, ◌<◌, ◌≤◌, min, List, [], ◌∷◌, ◌++◌, length, get_or, take, drop, refl, ap, sym, ◌∙◌, arith, append_assoc}
-use Rattle.std.proofs.lemmas.List.{take_all, take_at, take-take, take-append-drop, take-append-le, append-nil, length-take, length-drop, length-append, take_more, get_or-take, get_or-drop, get_or_past}
+use Rattle.std.proofs.lemmas.List.{take_all, take_at, take-take, take-append-drop, take-append-le, append-nil}
+use Rattle.std.proofs.lemmas.List.{length-take, length-drop, length-append, take_more, get_or-take, get_or-drop, get_or_past}
 use Rattle.std.proofs.Math.Seq.{get_or-append_seam}
 use Rattle.std.proofs.lemmas.Option.{unwrap_or-slice_get}
 use Rattle.std.proofs.lemmas.Bool.{cases_lt}
@@ -58,7 +59,9 @@ value_there xs k l d h e =
     ∙ (λ i. local_value (sym (take-values xs k (omega arith)) i) (sym e i))
 
 -- the local of a frame with this number
-pub found : (xs : List Local) (frame : Frame) (n : ℕ) (l : Local) → frame.first + n < frame.end → frame.first + n < length xs → l ≡ get_or xs (frame.first + n) l → value_at (in_frame (values xs) frame) n ≡ local_value (take (frame.first + n) (values xs)) l
+pub found :
+    (xs : List Local) (frame : Frame) (n : ℕ) (l : Local) → frame.first + n < frame.end → frame.first + n < length xs → l ≡ get_or xs (frame.first + n) l
+    → value_at (in_frame (values xs) frame) n ≡ local_value (take (frame.first + n) (values xs)) l
 found xs frame n l a b e =
     unwrap_or-slice_get (in_frame (values xs) frame) n no_value
     ∙ get_or-drop frame.first (take frame.end (values xs)) n no_value
@@ -106,7 +109,10 @@ pub record IsPushing (old now : List Local) (frame : Frame) (ws : List Written) 
 pub pushed_none : (old : List Local) (frame : Frame) → IsPushing old old frame []
 pushed_none old frame = record { pushed = sym (append-nil (values old)); kept = take_all (length old) old (omega arith); longer = omega arith }
 
-pub pushed_more : (old now next : List Local) (frame : Frame) (ws vs : List Written) (i : ℕ) (w d : Written) (l : Local) → IsPushing old now frame (take i ws) → frame.end ≤ length old → next ≡ now ++ l ∷ [] → local_value (values now) l ≡ value_of (in_frame (values now) frame) w → i < length ws → w ≡ get_or ws i d → vs ≡ take (i + 1) ws → IsPushing old next frame vs
+pub pushed_more :
+    (old now next : List Local) (frame : Frame) (ws vs : List Written) (i : ℕ) (w d : Written) (l : Local) → IsPushing old now frame (take i ws)
+    → frame.end ≤ length old → next ≡ now ++ l ∷ [] → local_value (values now) l ≡ value_of (in_frame (values now) frame) w → i < length ws → w ≡ get_or ws i d
+    → vs ≡ take (i + 1) ws → IsPushing old next frame vs
 pushed_more old now next frame ws vs i w d l so_far h n e b a t =
     let locals : List Value = in_frame (values old) frame in
     let same : in_frame (values now) frame ≡ locals = ap (λ zs. in_frame zs frame) so_far.pushed ∙ frame_stays (values old) (values_of locals (take i ws)) frame (omega (arith, length-values old)) in

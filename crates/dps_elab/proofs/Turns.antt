@@ -32,7 +32,9 @@ count_meanings names earlier (d ∷ ds) =
     omega (arith, count_meanings names (earlier ++ m ∷ []) ds, length-append earlier (m ∷ []))
 
 -- a definition means its body, behind the definitions before it
-meaning_there : (names : List ℕ) (earlier : List Meaning) (ds : List Definition) (n k : ℕ) (d : Definition) → n < length ds → d ≡ get_or ds n d → k ≡ length earlier + n → get_or (meanings names earlier ds) k no_meaning ≡ (λ arguments. expand names (meanings names earlier (take n ds)) d.body arguments)
+meaning_there :
+    (names : List ℕ) (earlier : List Meaning) (ds : List Definition) (n k : ℕ) (d : Definition) → n < length ds → d ≡ get_or ds n d → k ≡ length earlier + n
+    → get_or (meanings names earlier ds) k no_meaning ≡ (λ arguments. expand names (meanings names earlier (take n ds)) d.body arguments)
 meaning_there names earlier [] n k d h e a = absurd (omega arith)
 meaning_there names earlier (x ∷ ds) zero k d h e a =
     let m : Meaning = λ arguments. expand names earlier x.body arguments in
@@ -45,7 +47,9 @@ meaning_there names earlier (x ∷ ds) (suc n) k d h e a =
     let m : Meaning = λ arguments. expand names earlier x.body arguments in
     meaning_there names (earlier ++ m ∷ []) ds n k d (omega arith) e (omega (arith, length-append earlier (m ∷ [])))
 
-pub calls : (names : List ℕ) (ds : List Definition) (n : ℕ) (d : Definition) (arguments : List Value) (next : Numbers) → n < length ds → d ≡ get_or ds n d → expand names (meanings names [] (take n ds)) d.body arguments next ≡ called names (meanings names [] ds) n arguments next
+pub calls :
+    (names : List ℕ) (ds : List Definition) (n : ℕ) (d : Definition) (arguments : List Value) (next : Numbers) → n < length ds → d ≡ get_or ds n d
+    → expand names (meanings names [] (take n ds)) d.body arguments next ≡ called names (meanings names [] ds) n arguments next
 calls names ds n d arguments next h e =
     sym (ap (λ f. f arguments next) (unwrap_or-slice_get (meanings names [] ds) n no_meaning ∙ meaning_there names [] ds n n d h e (omega arith)))
 
@@ -75,9 +79,12 @@ turned_on scope old body name inner mid next after deeper new last end a b = rec
   within = b.within;
 }
 
-pub fresh_turned : (scope : Scope) (old new : List Local) (body : Body) (name after : ℕ) → scope.first ≤ length old → new ≡ old ++ Name name ∷ [] → after ≡ name + 1 → IsTurned scope old (fresh body) name scope new body after
+pub fresh_turned :
+    (scope : Scope) (old new : List Local) (body : Body) (name after : ℕ) → scope.first ≤ length old → new ≡ old ++ Name name ∷ [] → after ≡ name + 1
+    → IsTurned scope old (fresh body) name scope new body after
 fresh_turned scope old new body name after h e a = record {
-  same = λ v i. expand scope.private_names.now (meanings scope.private_names.now [] scope.definitions.now) body (locals_push scope.first old new (Name name) h e i) (record { variable = v; name = a i });
+  same =
+      λ v i. expand scope.private_names.now (meanings scope.private_names.now [] scope.definitions.now) body (locals_push scope.first old new (Name name) h e i) (record { variable = v; name = a i });
   kept = ap (take (length old)) e ∙ take_at old (Name name ∷ []) (length old) refl;
   longer = omega (arith, ap length e, length-append old (Name name ∷ []));
   within = omega (arith, ap length e, length-append old (Name name ∷ []));
@@ -88,7 +95,9 @@ weight_before [] n d h e = absurd (omega arith)
 weight_before (x ∷ ds) zero d h e = omega (arith, ap (λ y. body_nodes y.body) e)
 weight_before (x ∷ ds) (suc n) d h e = omega (arith, weight_before ds n d (omega arith) e)
 
-pub call_lighter : (ds earlier : List Definition) (n : ℕ) (ws : List Written) (d : Definition) (body : Body) → n < length ds → d ≡ get_or ds n d → earlier ≡ take n ds → body ≡ d.body → weight earlier body < weight ds (call n ws)
+pub call_lighter :
+    (ds earlier : List Definition) (n : ℕ) (ws : List Written) (d : Definition) (body : Body) → n < length ds → d ≡ get_or ds n d → earlier ≡ take n ds
+    → body ≡ d.body → weight earlier body < weight ds (call n ws)
 call_lighter ds earlier n ws d body h e a b = omega (arith, weight_before ds n d h e, ap definition_nodes a, ap body_nodes b)
 
 pub call_turned : (scope inner : Scope) (old new : List Local) (n : ℕ) (ws : List Written) (name : ℕ) (d : Definition) (body : Body)
@@ -113,7 +122,9 @@ call_turned scope inner old new n ws name d body h e b p q r pushed kept =
       within = omega (arith, more);
     }
 
-pub call_nothing_turned : (scope : Scope) (old : List Local) (n : ℕ) (ws : List Written) (name : ℕ) → scope.first ≤ length old → length scope.definitions.now ≤ n → IsTurned scope old (call n ws) name scope old nil name
+pub call_nothing_turned :
+    (scope : Scope) (old : List Local) (n : ℕ) (ws : List Written) (name : ℕ) → scope.first ≤ length old → length scope.definitions.now ≤ n
+    → IsTurned scope old (call n ws) name scope old nil name
 call_nothing_turned scope old n ws name h k = record {
   same = λ v. calls_nothing scope.private_names.now scope.definitions.now n (values_of (locals_from scope.first old) ws) (record { variable = v; name = name }) k;
   kept = take_all (length old) old (omega arith);

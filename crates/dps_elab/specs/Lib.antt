@@ -6,6 +6,3 @@ pub mod Locals
 pub mod Meaning
 pub mod Turns
 pub mod Writing
-pub mod Bindings
-pub mod Rules
-pub mod Naming

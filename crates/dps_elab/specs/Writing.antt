@@ -1,10 +1,11 @@
 -- What is written within limits on the nodes.
-use Rattle.std.specs.Prelude.{◌≡◌, ◌⊎◌, ℕ, ◌+◌, ◌<◌, ◌≤◌, List, [], ◌∷◌, ◌++◌, Option, Some, None, unwrap_or, false}
+use Rattle.std.specs.Prelude.{◌≡◌, ◌⊎◌, ℕ, ◌+◌, ◌<◌, ◌≤◌, List, [], ◌∷◌, ◌++◌, take, Option, Some, None, unwrap_or, false}
+use Rattle.std.specs.Option.{option_copied}
 use Rattle.dps_terms.specs.Tree.{Tree, trees, node_count, node_counts}
 use Rattle.dps_process.specs.Process.{Process, size}
 use Rattle.dps_scopes.specs.Body.{Body, nil}
 use Rattle.dps_scopes.specs.declared.body.Step.{Step}
-use Rattle.dps_elab.specs.Expansion.{Value, Numbers, Expansion, Expanding, one_variable, taken_apart, expansion_of}
+use Rattle.dps_elab.specs.Expansion.{Value, Numbers, Expansion, Expanding, one_variable, and_copies, taken_apart, expansion_of}
 use Rattle.dps_elab.specs.Limits.{height, heights, process_height, is_too_large}
 use Rattle.dps_elab.specs.Locals.{locals_from}
 use Rattle.dps_elab.specs.Turns.{written_in}
@@ -13,6 +14,7 @@ use Rattle.dps_elab.specs.declared.found.ChannelUse.{ChannelUse}
 use Rattle.dps_elab.specs.declared.local.Local.{Local}
 use Rattle.dps_elab.specs.declared.local.Local.TheVariants.{Variable}
 use Rattle.dps_elab.specs.declared.settle.Scope.{Scope}
+use Rattle.dps_elab.specs.declared.writer.Pattern.{Pattern}
 use Rattle.dps_elab.specs.declared.writer.Writer.{Writer}
 
 -- The numbers that come next.
@@ -84,9 +86,15 @@ pub record IsBuilt (room left depth : ℕ) (t built : Tree) : Type 0 where
   pub nodes : left + node_count t ≡ room
   pub low : height t ≤ depth
 
--- the same of arguments
-pub record AreBuilt (room left depth : ℕ) (ts built : List Tree) : Type 0 where
-  pub same : built ≡ ts
+-- the same of a term that was put before others
+pub record IsPut (room left depth : ℕ) (t : Tree) (old new : List Tree) : Type 0 where
+  pub put : new ≡ t ∷ old
+  pub nodes : left + node_count t ≡ room
+  pub low : height t ≤ depth
+
+-- and of arguments
+pub record ArePut (room left depth : ℕ) (ts old new : List Tree) : Type 0 where
+  pub put : new ≡ ts ++ old
   pub nodes : left + node_counts (trees ts) ≡ room
   pub low : heights (trees ts) ≤ depth
 
@@ -101,3 +109,31 @@ taken_apart_in scope stack steps fits other outside =
     taken_apart scope.private_names.now steps (locals_from scope.first stack)
     (expansion_of scope.private_names.now scope.definitions.now fits)
     (written_in scope outside other)
+
+-- The body was written: its expansion over the locals on the stack, from the numbers that come next.
+abbrev pub IsBodyWritten : Writer → Writer → Scope → ℕ → Body → Process → Type 0
+IsBodyWritten old new scope depth body p = IsWritten old new depth old.stack.items (written_in scope old.stack.items body (numbers_of old)) p
+
+abbrev pub IsTooLargeBody : Writer → Scope → ℕ → Body → Type 0
+IsTooLargeBody old scope depth body = IsTooLargeSide old.room depth (written_in scope old.stack.items body (numbers_of old)).process
+
+-- The body and so many further copies of it were written.
+abbrev pub AreCopiesWritten : Writer → Writer → Scope → ℕ → ℕ → Body → Process → Type 0
+AreCopiesWritten old new scope depth further body p =
+    IsWritten old new depth old.stack.items (and_copies further (written_in scope old.stack.items body) (numbers_of old)) p
+
+abbrev pub AreTooLargeCopies : Writer → Scope → ℕ → ℕ → Body → Type 0
+AreTooLargeCopies old scope depth further body =
+    IsTooLargeSide old.room depth (and_copies further (written_in scope old.stack.items body) (numbers_of old)).process
+
+-- What takes a value apart by these steps was written, and what is outside the pattern is on the stack then.
+abbrev pub apart_in : Writer → Scope → List Step → Pattern → Expansion
+apart_in old scope steps pattern =
+    let outside = take pattern.outside old.stack.items in
+    taken_apart_in scope old.stack.items steps pattern.then.now (other_body (option_copied pattern.otherwise)) outside (numbers_of old)
+
+abbrev pub IsTakenApart : Writer → Writer → Scope → ℕ → List Step → Pattern → Process → Type 0
+IsTakenApart old new scope depth steps pattern p = IsWritten old new depth (take pattern.outside old.stack.items) (apart_in old scope steps pattern) p
+
+abbrev pub IsTooLargeApart : Writer → Scope → ℕ → List Step → Pattern → Type 0
+IsTooLargeApart old scope depth steps pattern = IsTooLargeSide old.room depth (apart_in old scope steps pattern).process

@@ -1,16 +1,17 @@
 //! Terms with what their locals stand for, built within the limits of a side.
-ghost use Rattle.std.specs.Prelude.{◌≡◌, ◌⊎◌, ◌+◌, ◌≤◌, ◌++◌, ◌∷◌, [], vec_len, map, IfOk, OnOk};
-ghost use Rattle.dps_terms.specs.Tree.{Tree, app, trees};
+ghost use Rattle.std.specs.Prelude.{◌≡◌, ◌⊎◌, ◌+◌, ◌++◌, ◌∷◌, [], map, IfOk, OnOk};
+ghost use Rattle.dps_terms.specs.Tree.{Tree, app, leaf as leaf_tree, trees};
+ghost use Rattle.dps_terms.specs.Leaves.{leaf_seen};
 ghost use Rattle.dps_terms.specs.Seen.{seen};
 ghost use Rattle.dps_terms.specs.Views.{view_of, arguments};
 ghost use Rattle.dps_elab.specs.Expansion.{value_at, tree_in, privates_of, declared_name};
 ghost use Rattle.dps_elab.specs.Locals.{in_frame, values};
-ghost use Rattle.dps_elab.specs.Writing.{IsBuilt, IsTooLargeTerm, AreBuilt, AreTooLarge};
+ghost use Rattle.dps_elab.specs.Writing.{IsBuilt, IsPut, IsTooLargeTerm, ArePut, AreTooLarge};
 
 use crate::local::{Frame, Local, local_at};
 use crate::{PrivateUse, Stop};
 use dps_scopes::Use;
-use dps_terms::{NoMemory, PublicName, Sym, Term, TermRef, TermView};
+use dps_terms::{NoMemory, PublicName, Sym, Term, TermLeaf, TermRef, TermStack, TermView};
 use std::alloc::{AllocError, Global};
 
 /// Takes one node from those that are left, and says how many may be on a path behind it.
@@ -30,7 +31,6 @@ pub(crate) fn take_node(room: &mut u32, depth: u32) -> Result<u32, Stop>
 
 /// The term with what the locals of the frame stand for. Its nodes are taken from those that are left, and no path may
 /// have more than `depth` of them.
-#[cycle(build)]
 pub(crate) fn build(
     alloc: Global,
     stack: &[Local<'_>],
@@ -42,46 +42,12 @@ pub(crate) fn build(
     ensures ok { IfOk result (λ t. IsBuilt room.old room.new depth (tree_in (in_frame (values stack.now) frame) (seen term.entry)) t) }
     ensures large { result ≡ Err Stop.TooLarge → IsTooLargeTerm room.old depth (tree_in (in_frame (values stack.now) frame) (seen term.entry)) }
 {
-    match term.view() {
-        TermView::Var(number) => build_local(alloc, stack, frame, number as usize, room, depth),
-        TermView::App(sym) => {
-            let depth = take_node(room, depth)?;
-            let arguments = build_arguments(alloc, stack, frame, term, room, depth)?;
-            let built = Term::app(alloc, sym, arguments)?;
-            Ok(built)
-        }
-        _ => {
-            take_node(room, depth)?;
-            let built = term.copy(alloc)?;
-            Ok(built)
-        }
-    }
-}
-
-/// The arguments of the term's root.
-#[cycle(build)]
-fn build_arguments(
-    alloc: Global,
-    stack: &[Local<'_>],
-    frame: Frame,
-    term: TermRef<'_>,
-    room: &mut u32,
-    depth: u32,
-) -> Result<Vec<Term>, Stop>
-    ensures ok { IfOk result (λ v. AreBuilt room.old room.new depth (map (tree_in (in_frame (values stack.now) frame)) (arguments (seen term.entry))) v.items) }
-    ensures few { IfOk result (λ v. vec_len v ≤ 8) }
-    ensures large { result ≡ Err Stop.TooLarge → AreTooLarge room.old depth (map (tree_in (in_frame (values stack.now) frame)) (arguments (seen term.entry))) }
-{
-    let mut arguments = Vec::new(alloc);
-    for index in 0..term.arity() {
-        let argument = build(alloc, stack, frame, term.argument(index), room, depth)?;
-        arguments.push(argument)?;
-    }
-    Ok(arguments)
+    let mut built = TermStack::empty(alloc);
+    put_term(stack, frame, term, room, depth, &mut built)?;
+    Ok(built.into_term())
 }
 
 /// What the local with this number stands for.
-#[cycle(build)]
 pub(crate) fn build_local(
     alloc: Global,
     stack: &[Local<'_>],
@@ -93,21 +59,9 @@ pub(crate) fn build_local(
     ensures ok { IfOk result (λ t. IsBuilt room.old room.new depth ((value_at (in_frame (values stack.now) frame) number).tree) t) }
     ensures large { result ≡ Err Stop.TooLarge → IsTooLargeTerm room.old depth ((value_at (in_frame (values stack.now) frame) number).tree) }
 {
-    match local_at(stack, frame, number) {
-        Local::Variable(variable) => {
-            take_node(room, depth)?;
-            let built = Term::var(alloc, variable)?;
-            Ok(built)
-        }
-        Local::Name(name) => {
-            take_node(room, depth)?;
-            let built = Term::private(alloc, name)?;
-            Ok(built)
-        }
-        Local::Argument(written, outer) => {
-            build(alloc, stack, outer, written.tree.whole(), room, depth)
-        }
-    }
+    let mut built = TermStack::empty(alloc);
+    put_local(stack, frame, number, room, depth, &mut built)?;
+    Ok(built.into_term())
 }
 
 /// The projection of what the local with this number stands for.
@@ -124,11 +78,93 @@ pub(crate) fn build_projection(
     ensures large { result ≡ Err Stop.TooLarge → IsTooLargeTerm room.old depth (app projection (trees ((value_at (in_frame (values stack.now) frame) number).tree ∷ []))) }
 {
     let depth = take_node(room, depth)?;
-    let value = build_local(alloc, stack, frame, number, room, depth)?;
-    let mut arguments = Vec::new(alloc);
-    arguments.push(value)?;
-    let built = Term::app(alloc, projection, arguments)?;
-    Ok(built)
+    let mut built = TermStack::empty(alloc);
+    put_local(stack, frame, number, room, depth, &mut built)?;
+    built.apply(projection, 1)?;
+    Ok(built.into_term())
+}
+
+/// Puts the term with what the locals of the frame stand for in front. Its nodes are taken from those that are left, and
+/// no path may have more than `depth` of them.
+#[cycle(build)]
+fn put_term(
+    stack: &[Local<'_>],
+    frame: Frame,
+    term: TermRef<'_>,
+    room: &mut u32,
+    depth: u32,
+    built: &mut TermStack,
+) -> Result<(), Stop>
+    ensures ok { OnOk result (IsPut room.old room.new depth (tree_in (in_frame (values stack.now) frame) (seen term.entry)) built.old built.new) }
+    ensures large { result ≡ Err Stop.TooLarge → IsTooLargeTerm room.old depth (tree_in (in_frame (values stack.now) frame) (seen term.entry)) }
+{
+    match term.view() {
+        TermView::Var(number) => put_local(stack, frame, number as usize, room, depth, built),
+        TermView::App(sym) => {
+            let depth = take_node(room, depth)?;
+            put_arguments(stack, frame, term, room, depth, built)?;
+            built.apply(sym, term.arity())?;
+            Ok(())
+        }
+        _ => {
+            take_node(room, depth)?;
+            built.push(term)?;
+            Ok(())
+        }
+    }
+}
+
+/// Puts the arguments of the term's root in front, the last one first.
+#[cycle(build)]
+fn put_arguments(
+    stack: &[Local<'_>],
+    frame: Frame,
+    term: TermRef<'_>,
+    room: &mut u32,
+    depth: u32,
+    built: &mut TermStack,
+) -> Result<(), Stop>
+    ensures ok { OnOk result (ArePut room.old room.new depth (map (tree_in (in_frame (values stack.now) frame)) (arguments (seen term.entry))) built.old built.new) }
+    ensures large { result ≡ Err Stop.TooLarge → AreTooLarge room.old depth (map (tree_in (in_frame (values stack.now) frame)) (arguments (seen term.entry))) }
+{
+    let mut left = term.arity();
+    while left > 0 {
+        left -= 1;
+        put_term(stack, frame, term.argument(left), room, depth, built)?;
+    }
+    Ok(())
+}
+
+/// Puts what the local with this number stands for in front.
+#[cycle(build)]
+fn put_local(
+    stack: &[Local<'_>],
+    frame: Frame,
+    number: usize,
+    room: &mut u32,
+    depth: u32,
+    built: &mut TermStack,
+) -> Result<(), Stop>
+    ensures ok { OnOk result (IsPut room.old room.new depth ((value_at (in_frame (values stack.now) frame) number).tree) built.old built.new) }
+    ensures large { result ≡ Err Stop.TooLarge → IsTooLargeTerm room.old depth ((value_at (in_frame (values stack.now) frame) number).tree) }
+{
+    match local_at(stack, frame, number) {
+        Local::Variable(variable) => put_leaf(TermLeaf::Var(variable), room, depth, built),
+        Local::Name(name) => put_leaf(TermLeaf::Private(name), room, depth, built),
+        Local::Argument(written, outer) => {
+            put_term(stack, outer, written.tree.whole(), room, depth, built)
+        }
+    }
+}
+
+/// Puts a leaf in front.
+fn put_leaf(leaf: TermLeaf, room: &mut u32, depth: u32, built: &mut TermStack) -> Result<(), Stop>
+    ensures ok { OnOk result (IsPut room.old room.new depth (leaf_tree (leaf_seen leaf)) built.old built.new) }
+    ensures large { result ≡ Err Stop.TooLarge → IsTooLargeTerm room.old depth (leaf_tree (leaf_seen leaf)) }
+{
+    take_node(room, depth)?;
+    built.push_leaf(leaf)?;
+    Ok(())
 }
 
 /// Adds the private names of a term, in text order.

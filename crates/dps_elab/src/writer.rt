@@ -1,24 +1,20 @@
 //! Sides written out within limits on their nodes.
-ghost use Rattle.std.specs.Prelude.{◌≡◌, ◌⊎◌, ◌+◌, ◌-◌, ◌<◌, ◌≤◌, ◌^◌, ◌∷◌, [], length, take, vec_len, true, IfOk};
+ghost use Rattle.std.specs.Prelude.{◌≡◌, ◌-◌, ◌<◌, ◌≤◌, ◌^◌, ◌∷◌, [], length, vec_len, true, IfOk};
 ghost use Rattle.std.specs.Option.{option_copied};
-ghost use Rattle.dps_terms.specs.Tree.{app, trees};
 ghost use Rattle.dps_scopes.specs.Body.{nil, bodies, input, output, conditional, bind};
 ghost use Rattle.dps_scopes.specs.Views.{shown};
-ghost use Rattle.dps_elab.specs.Expansion.{value_at, value_of, channel_in, nothing, and_copies, expansion_of};
+ghost use Rattle.dps_elab.specs.Expansion.{nothing, expansion_of};
 ghost use Rattle.dps_elab.specs.Limits.{is_too_large};
-ghost use Rattle.dps_elab.specs.Locals.{locals_from};
-ghost use Rattle.dps_elab.specs.Turns.{joined, chain_of, written_in, IsCounted};
+ghost use Rattle.dps_elab.specs.Turns.{chain_of, IsCounted};
 
-use crate::build::{
-    add_privates, build, build_local, build_projection, declared_name, root, take_node,
-};
-use crate::local::{Frame, Local};
+use crate::local::Local;
+use crate::made::{bind_of, conditional_of, joined, output_of};
 use crate::settle::{Join, Scope, settle};
 use crate::{ChannelUse, PrivateUse, Stop};
 use dps_process::Process;
 use dps_scopes::{Body, BodyView, Channel, Definition, Step, Written};
-use dps_terms::{NoMemory, Sym, Term};
-use std::alloc::{AllocError, Global};
+use dps_terms::Sym;
+use std::alloc::Global;
 
 /// How many process and term nodes a side may have.
 const MOST_NODES: u32 = 65_536;
@@ -42,16 +38,16 @@ pub(crate) struct Pattern<'a> {
 /// What writes sides: the locals, what was found, the numbers that come next, and how many nodes are left.
 #[derive(Drop)]
 pub(crate) struct Writer<'a> {
-    stack: Vec<Local<'a>>,
+    pub(crate) stack: Vec<Local<'a>>,
     pub(crate) channels: Vec<ChannelUse>,
     pub(crate) privates: Vec<PrivateUse>,
-    variable: u64,
-    name: u64,
-    room: u32,
+    pub(crate) variable: u64,
+    pub(crate) name: u64,
+    pub(crate) room: u32,
 }
 
 impl<'a> Writer<'a> {
-    ghost use Rattle.dps_elab.specs.Writing.{numbers_of, IsAdded, IsWritten, IsTermWritten, IsChannelAdded, IsVariablePushed, IsNodeTaken, IsTooLargeTerm, IsTooLargeSide, IsSideWritten, other_body, taken_apart_in};
+    ghost use Rattle.dps_elab.specs.Writing.{numbers_of, IsWritten, IsBodyWritten, AreCopiesWritten, IsTakenApart, IsTooLargeSide, IsTooLargeBody, AreTooLargeCopies, IsTooLargeApart, IsSideWritten, other_body};
 
     /// A writer that has written nothing. Private names are numbered from `name` on.
     pub(crate) fn new(alloc: Global, name: u64) -> Writer<'a>
@@ -101,8 +97,8 @@ impl<'a> Writer<'a> {
         depth: u32,
     ) -> Result<Process, Stop>
         requires { scope.first ≤ vec_len self.old.stack }
-        ensures ok { IfOk result (λ p. IsWritten self.old self.new depth (self.old.stack.items) (written_in scope.entry self.old.stack.items body.now (numbers_of self.old)) p) }
-        ensures large { result ≡ Err Stop.TooLarge → IsTooLargeSide self.old.room depth ((written_in scope.entry self.old.stack.items body.now (numbers_of self.old)).process) }
+        ensures ok { IfOk result (λ p. IsBodyWritten self.old self.new scope.entry depth body.now p) }
+        ensures large { result ≡ Err Stop.TooLarge → IsTooLargeBody self.old scope.entry depth body.now }
     {
         let start = self.stack.len();
         let settled = settle(&mut self.stack, &mut self.name, scope, body)?;
@@ -122,8 +118,8 @@ impl<'a> Writer<'a> {
     ) -> Result<Process, Stop>
         requires within { scope.first ≤ vec_len self.old.stack }
         requires counted { IsCounted view }
-        ensures ok { IfOk result (λ p. IsWritten self.old self.new depth (self.old.stack.items) (written_in scope.entry self.old.stack.items (shown view.entry) (numbers_of self.old)) p) }
-        ensures large { result ≡ Err Stop.TooLarge → IsTooLargeSide self.old.room depth ((written_in scope.entry self.old.stack.items (shown view.entry) (numbers_of self.old)).process) }
+        ensures ok { IfOk result (λ p. IsBodyWritten self.old self.new scope.entry depth (shown view.entry) p) }
+        ensures large { result ≡ Err Stop.TooLarge → IsTooLargeBody self.old scope.entry depth (shown view.entry) }
     {
         match view {
             BodyView::Nil => self.nil(depth),
@@ -168,8 +164,8 @@ impl<'a> Writer<'a> {
     ) -> Result<Process, Stop>
         requires within { scope.first ≤ vec_len self.old.stack }
         requires some { 0 < length parts.now }
-        ensures ok { IfOk result (λ p. IsWritten self.old self.new depth (self.old.stack.items) (written_in scope.entry self.old.stack.items (chain_of join (bodies parts.now)) (numbers_of self.old)) p) }
-        ensures large { result ≡ Err Stop.TooLarge → IsTooLargeSide self.old.room depth ((written_in scope.entry self.old.stack.items (chain_of join (bodies parts.now)) (numbers_of self.old)).process) }
+        ensures ok { IfOk result (λ p. IsBodyWritten self.old self.new scope.entry depth (chain_of join (bodies parts.now)) p) }
+        ensures large { result ≡ Err Stop.TooLarge → IsTooLargeBody self.old scope.entry depth (chain_of join (bodies parts.now)) }
     {
         if parts.len() == 1 {
             self.body(alloc, scope, &parts[0], depth)
@@ -190,8 +186,8 @@ impl<'a> Writer<'a> {
     ) -> Result<Process, Stop>
         requires within { scope.first ≤ vec_len self.old.stack }
         requires two { 1 < length parts.now }
-        ensures ok { IfOk result (λ p. IsWritten self.old self.new depth (self.old.stack.items) (written_in scope.entry self.old.stack.items (chain_of join (bodies parts.now)) (numbers_of self.old)) p) }
-        ensures large { result ≡ Err Stop.TooLarge → IsTooLargeSide self.old.room depth ((written_in scope.entry self.old.stack.items (chain_of join (bodies parts.now)) (numbers_of self.old)).process) }
+        ensures ok { IfOk result (λ p. IsBodyWritten self.old self.new scope.entry depth (chain_of join (bodies parts.now)) p) }
+        ensures large { result ≡ Err Stop.TooLarge → IsTooLargeBody self.old scope.entry depth (chain_of join (bodies parts.now)) }
     {
         let below = self.take_node(depth)?;
         let first = self.body(alloc, scope, &parts[0], below)?;
@@ -212,8 +208,8 @@ impl<'a> Writer<'a> {
         depth: u32,
     ) -> Result<Process, Stop>
         requires { scope.first ≤ vec_len self.old.stack }
-        ensures ok { IfOk result (λ p. IsWritten self.old self.new depth (self.old.stack.items) (and_copies (count - 1) (written_in scope.entry self.old.stack.items body.now) (numbers_of self.old)) p) }
-        ensures large { result ≡ Err Stop.TooLarge → IsTooLargeSide self.old.room depth ((and_copies (count - 1) (written_in scope.entry self.old.stack.items body.now) (numbers_of self.old)).process) }
+        ensures ok { IfOk result (λ p. AreCopiesWritten self.old self.new scope.entry depth (count - 1) body.now p) }
+        ensures large { result ≡ Err Stop.TooLarge → AreTooLargeCopies self.old scope.entry depth (count - 1) body.now }
     {
         if count <= 1 {
             self.body(alloc, scope, body, depth)
@@ -234,8 +230,8 @@ impl<'a> Writer<'a> {
     ) -> Result<Process, Stop>
         requires within { scope.first ≤ vec_len self.old.stack }
         requires two { 1 < count }
-        ensures ok { IfOk result (λ p. IsWritten self.old self.new depth (self.old.stack.items) (and_copies (count - 1) (written_in scope.entry self.old.stack.items body.now) (numbers_of self.old)) p) }
-        ensures large { result ≡ Err Stop.TooLarge → IsTooLargeSide self.old.room depth ((and_copies (count - 1) (written_in scope.entry self.old.stack.items body.now) (numbers_of self.old)).process) }
+        ensures ok { IfOk result (λ p. AreCopiesWritten self.old self.new scope.entry depth (count - 1) body.now p) }
+        ensures large { result ≡ Err Stop.TooLarge → AreTooLargeCopies self.old scope.entry depth (count - 1) body.now }
     {
         let below = self.take_node(depth)?;
         let first = self.body(alloc, scope, body, below)?;
@@ -256,8 +252,8 @@ impl<'a> Writer<'a> {
         depth: u32,
     ) -> Result<Process, Stop>
         requires { scope.first ≤ vec_len self.old.stack }
-        ensures ok { IfOk result (λ p. IsWritten self.old self.new depth (self.old.stack.items) (written_in scope.entry self.old.stack.items (input channel.now steps.now then.now) (numbers_of self.old)) p) }
-        ensures large { result ≡ Err Stop.TooLarge → IsTooLargeSide self.old.room depth ((written_in scope.entry self.old.stack.items (input channel.now steps.now then.now) (numbers_of self.old)).process) }
+        ensures ok { IfOk result (λ p. IsBodyWritten self.old self.new scope.entry depth (input channel.now steps.now then.now) p) }
+        ensures large { result ≡ Err Stop.TooLarge → IsTooLargeBody self.old scope.entry depth (input channel.now steps.now then.now) }
     {
         let below = self.take_node(depth)?;
         let number = self.channel(scope, channel)?;
@@ -285,14 +281,14 @@ impl<'a> Writer<'a> {
         depth: u32,
     ) -> Result<Process, Stop>
         requires { scope.first ≤ vec_len self.old.stack }
-        ensures ok { IfOk result (λ p. IsWritten self.old self.new depth (self.old.stack.items) (written_in scope.entry self.old.stack.items (output channel.now term.now then.now) (numbers_of self.old)) p) }
-        ensures large { result ≡ Err Stop.TooLarge → IsTooLargeSide self.old.room depth ((written_in scope.entry self.old.stack.items (output channel.now term.now then.now) (numbers_of self.old)).process) }
+        ensures ok { IfOk result (λ p. IsBodyWritten self.old self.new scope.entry depth (output channel.now term.now then.now) p) }
+        ensures large { result ≡ Err Stop.TooLarge → IsTooLargeBody self.old scope.entry depth (output channel.now term.now then.now) }
     {
         let below = self.take_node(depth)?;
         let number = self.channel(scope, channel)?;
         let sent = self.term(alloc, scope, term, below)?;
         let next = self.body(alloc, scope, then, below)?;
-        let written = Process::output(alloc, number, sent, next)?;
+        let written = output_of(alloc, number, sent, next)?;
         Ok(written)
     }
 
@@ -309,15 +305,15 @@ impl<'a> Writer<'a> {
         depth: u32,
     ) -> Result<Process, Stop>
         requires { scope.first ≤ vec_len self.old.stack }
-        ensures ok { IfOk result (λ p. IsWritten self.old self.new depth (self.old.stack.items) (written_in scope.entry self.old.stack.items (conditional left.now right.now then.now other.now) (numbers_of self.old)) p) }
-        ensures large { result ≡ Err Stop.TooLarge → IsTooLargeSide self.old.room depth ((written_in scope.entry self.old.stack.items (conditional left.now right.now then.now other.now) (numbers_of self.old)).process) }
+        ensures ok { IfOk result (λ p. IsBodyWritten self.old self.new scope.entry depth (conditional left.now right.now then.now other.now) p) }
+        ensures large { result ≡ Err Stop.TooLarge → IsTooLargeBody self.old scope.entry depth (conditional left.now right.now then.now other.now) }
     {
         let below = self.take_node(depth)?;
         let first = self.term(alloc, scope, left, below)?;
         let second = self.term(alloc, scope, right, below)?;
         let equal = self.body(alloc, scope, then, below)?;
         let unequal = self.body(alloc, scope, other, below)?;
-        let written = Process::conditional(alloc, first, second, equal, unequal)?;
+        let written = conditional_of(alloc, first, second, equal, unequal)?;
         Ok(written)
     }
 
@@ -334,8 +330,8 @@ impl<'a> Writer<'a> {
         depth: u32,
     ) -> Result<Process, Stop>
         requires { scope.first ≤ vec_len self.old.stack }
-        ensures ok { IfOk result (λ p. IsWritten self.old self.new depth (self.old.stack.items) (written_in scope.entry self.old.stack.items (bind term.now steps.now then.now other.now) (numbers_of self.old)) p) }
-        ensures large { result ≡ Err Stop.TooLarge → IsTooLargeSide self.old.room depth ((written_in scope.entry self.old.stack.items (bind term.now steps.now then.now other.now) (numbers_of self.old)).process) }
+        ensures ok { IfOk result (λ p. IsBodyWritten self.old self.new scope.entry depth (bind term.now steps.now then.now other.now) p) }
+        ensures large { result ≡ Err Stop.TooLarge → IsTooLargeBody self.old scope.entry depth (bind term.now steps.now then.now other.now) }
     {
         let below = self.take_node(depth)?;
         let value = self.term(alloc, scope, term, below)?;
@@ -348,7 +344,7 @@ impl<'a> Writer<'a> {
         let variable = self.push_variable()?;
         let fits = self.taken_apart(alloc, scope, pattern, below)?;
         let unfit = self.body(alloc, scope, other, below)?;
-        let written = Process::bind(alloc, variable, value, fits, unfit)?;
+        let written = bind_of(alloc, variable, value, fits, unfit)?;
         Ok(written)
     }
 
@@ -363,8 +359,8 @@ impl<'a> Writer<'a> {
     ) -> Result<Process, Stop>
         requires within { scope.first ≤ pattern.outside }
         requires outside { pattern.outside ≤ vec_len self.old.stack }
-        ensures ok { IfOk result (λ p. IsWritten self.old self.new depth (take pattern.entry.outside self.old.stack.items) (taken_apart_in scope.entry self.old.stack.items pattern.entry.steps.now pattern.entry.then.now (other_body (option_copied pattern.entry.otherwise)) (take pattern.entry.outside self.old.stack.items) (numbers_of self.old)) p) }
-        ensures large { result ≡ Err Stop.TooLarge → IsTooLargeSide self.old.room depth ((taken_apart_in scope.entry self.old.stack.items pattern.entry.steps.now pattern.entry.then.now (other_body (option_copied pattern.entry.otherwise)) (take pattern.entry.outside self.old.stack.items) (numbers_of self.old)).process) }
+        ensures ok { IfOk result (λ p. IsTakenApart self.old self.new scope.entry depth pattern.entry.steps.now pattern.entry p) }
+        ensures large { result ≡ Err Stop.TooLarge → IsTooLargeApart self.old scope.entry depth pattern.entry.steps.now pattern.entry }
     {
         match pattern.steps.split_first() {
             None => {
@@ -396,8 +392,8 @@ impl<'a> Writer<'a> {
     ) -> Result<Process, Stop>
         requires within { scope.first ≤ rest.outside }
         requires outside { rest.outside ≤ vec_len self.old.stack }
-        ensures ok { IfOk result (λ p. IsWritten self.old self.new depth (take rest.entry.outside self.old.stack.items) (taken_apart_in scope.entry self.old.stack.items (step.now ∷ rest.entry.steps.now) rest.entry.then.now (other_body (option_copied rest.entry.otherwise)) (take rest.entry.outside self.old.stack.items) (numbers_of self.old)) p) }
-        ensures large { result ≡ Err Stop.TooLarge → IsTooLargeSide self.old.room depth ((taken_apart_in scope.entry self.old.stack.items (step.now ∷ rest.entry.steps.now) rest.entry.then.now (other_body (option_copied rest.entry.otherwise)) (take rest.entry.outside self.old.stack.items) (numbers_of self.old)).process) }
+        ensures ok { IfOk result (λ p. IsTakenApart self.old self.new scope.entry depth (step.now ∷ rest.entry.steps.now) rest.entry p) }
+        ensures large { result ≡ Err Stop.TooLarge → IsTooLargeApart self.old scope.entry depth (step.now ∷ rest.entry.steps.now) rest.entry }
     {
         match step {
             Step::Project(projection, number) => {
@@ -420,15 +416,15 @@ impl<'a> Writer<'a> {
     ) -> Result<Process, Stop>
         requires within { scope.first ≤ rest.outside }
         requires outside { rest.outside ≤ vec_len self.old.stack }
-        ensures ok { IfOk result (λ p. IsWritten self.old self.new depth (take rest.entry.outside self.old.stack.items) (taken_apart_in scope.entry self.old.stack.items ((Step.Project projection number) ∷ rest.entry.steps.now) rest.entry.then.now (other_body (option_copied rest.entry.otherwise)) (take rest.entry.outside self.old.stack.items) (numbers_of self.old)) p) }
-        ensures large { result ≡ Err Stop.TooLarge → IsTooLargeSide self.old.room depth ((taken_apart_in scope.entry self.old.stack.items ((Step.Project projection number) ∷ rest.entry.steps.now) rest.entry.then.now (other_body (option_copied rest.entry.otherwise)) (take rest.entry.outside self.old.stack.items) (numbers_of self.old)).process) }
+        ensures ok { IfOk result (λ p. IsTakenApart self.old self.new scope.entry depth ((Step.Project projection number) ∷ rest.entry.steps.now) rest.entry p) }
+        ensures large { result ≡ Err Stop.TooLarge → IsTooLargeApart self.old scope.entry depth ((Step.Project projection number) ∷ rest.entry.steps.now) rest.entry }
     {
         let below = self.take_node(depth)?;
         let value = self.projection(alloc, scope, projection, number, below)?;
         let variable = self.push_variable()?;
         let fits = self.taken_apart(alloc, scope, rest, below)?;
         let unfit = self.otherwise(alloc, scope, rest.otherwise, below)?;
-        let written = Process::bind(alloc, variable, value, fits, unfit)?;
+        let written = bind_of(alloc, variable, value, fits, unfit)?;
         Ok(written)
     }
 
@@ -445,15 +441,15 @@ impl<'a> Writer<'a> {
     ) -> Result<Process, Stop>
         requires within { scope.first ≤ rest.outside }
         requires outside { rest.outside ≤ vec_len self.old.stack }
-        ensures ok { IfOk result (λ p. IsWritten self.old self.new depth (take rest.entry.outside self.old.stack.items) (taken_apart_in scope.entry self.old.stack.items ((Step.Test number term.now) ∷ rest.entry.steps.now) rest.entry.then.now (other_body (option_copied rest.entry.otherwise)) (take rest.entry.outside self.old.stack.items) (numbers_of self.old)) p) }
-        ensures large { result ≡ Err Stop.TooLarge → IsTooLargeSide self.old.room depth ((taken_apart_in scope.entry self.old.stack.items ((Step.Test number term.now) ∷ rest.entry.steps.now) rest.entry.then.now (other_body (option_copied rest.entry.otherwise)) (take rest.entry.outside self.old.stack.items) (numbers_of self.old)).process) }
+        ensures ok { IfOk result (λ p. IsTakenApart self.old self.new scope.entry depth ((Step.Test number term.now) ∷ rest.entry.steps.now) rest.entry p) }
+        ensures large { result ≡ Err Stop.TooLarge → IsTooLargeApart self.old scope.entry depth ((Step.Test number term.now) ∷ rest.entry.steps.now) rest.entry }
     {
         let below = self.take_node(depth)?;
         let first = self.local(alloc, scope, number, below)?;
         let second = self.term(alloc, scope, term, below)?;
         let fits = self.taken_apart(alloc, scope, rest, below)?;
         let unfit = self.otherwise(alloc, scope, rest.otherwise, below)?;
-        let written = Process::conditional(alloc, first, second, fits, unfit)?;
+        let written = conditional_of(alloc, first, second, fits, unfit)?;
         Ok(written)
     }
 
@@ -467,136 +463,12 @@ impl<'a> Writer<'a> {
         depth: u32,
     ) -> Result<Process, Stop>
         requires { scope.first ≤ vec_len self.old.stack }
-        ensures ok { IfOk result (λ p. IsWritten self.old self.new depth (self.old.stack.items) (written_in scope.entry self.old.stack.items (other_body (option_copied body.entry)) (numbers_of self.old)) p) }
-        ensures large { result ≡ Err Stop.TooLarge → IsTooLargeSide self.old.room depth ((written_in scope.entry self.old.stack.items (other_body (option_copied body.entry)) (numbers_of self.old)).process) }
+        ensures ok { IfOk result (λ p. IsBodyWritten self.old self.new scope.entry depth (other_body (option_copied body.entry)) p) }
+        ensures large { result ≡ Err Stop.TooLarge → IsTooLargeBody self.old scope.entry depth (other_body (option_copied body.entry)) }
     {
         match body {
             Some(body) => self.body(alloc, scope, body, depth),
             None => self.nil(depth),
         }
-    }
-
-    /// Takes a node from those that are left, and says how many may be on a path behind it.
-    fn take_node(&mut self, depth: u32) -> Result<u32, Stop>
-        ensures ok { IfOk result (λ below. IsNodeTaken self.old self.new depth below) }
-        ensures large { result ≡ Err Stop.TooLarge → (self.old.room ≡ 0) ⊎ (depth ≡ 0) }
-    {
-        take_node(&mut self.room, depth)
-    }
-
-    /// Numbers a variable, which is the next local.
-    fn push_variable(&mut self) -> Result<u64, NoMemory>
-        ensures { IfOk result (λ variable. IsVariablePushed self.old self.new variable) }
-    {
-        let number = self.variable;
-        let Some(next) = number.checked_add(1) else {
-            return Err(AllocError);
-        };
-        self.stack.push(Local::Variable(number))?;
-        self.variable = next;
-        Ok(number)
-    }
-
-    /// Notes what stands in a channel's place. The answer is the declared name's number, or 0 where it is none.
-    fn channel(&mut self, scope: Scope<'a>, channel: &Channel) -> Result<u32, NoMemory>
-        ensures { IfOk result (λ number. IsChannelAdded self.old self.new (channel_in scope.entry.private_names.now (locals_from scope.entry.first self.old.stack.items) channel.now) number) }
-    {
-        let frame = Frame {
-            first: scope.first,
-            end: self.stack.len(),
-        };
-        let root = root(self.stack.as_slice(), frame, channel.tree.whole());
-        let name = declared_name(scope.private_names, root);
-        let place = channel.place;
-        self.channels.push(ChannelUse { name, place })?;
-        Ok(name.unwrap_or(0))
-    }
-
-    /// Builds a term, and notes its private names.
-    fn term(
-        &mut self,
-        alloc: Global,
-        scope: Scope<'a>,
-        written: &Written,
-        depth: u32,
-    ) -> Result<Term, Stop>
-        ensures ok { IfOk result (λ t. IsTermWritten self.old self.new depth (value_of (locals_from scope.entry.first self.old.stack.items) written.now) t) }
-        ensures large { result ≡ Err Stop.TooLarge → IsTooLargeTerm self.old.room depth ((value_of (locals_from scope.entry.first self.old.stack.items) written.now).tree) }
-    {
-        let frame = Frame {
-            first: scope.first,
-            end: self.stack.len(),
-        };
-        let tree = written.tree.whole();
-        let term = build(
-            alloc,
-            self.stack.as_slice(),
-            frame,
-            tree,
-            &mut self.room,
-            depth,
-        )?;
-        let uses = written.uses.as_slice();
-        add_privates(self.stack.as_slice(), frame, uses, &mut self.privates)?;
-        Ok(term)
-    }
-
-    /// Builds what a local stands for.
-    fn local(
-        &mut self,
-        alloc: Global,
-        scope: Scope<'a>,
-        number: usize,
-        depth: u32,
-    ) -> Result<Term, Stop>
-        ensures ok { IfOk result (λ t. IsTermWritten self.old self.new depth (record { tree = (value_at (locals_from scope.entry.first self.old.stack.items) number).tree; privates = [] }) t) }
-        ensures large { result ≡ Err Stop.TooLarge → IsTooLargeTerm self.old.room depth ((value_at (locals_from scope.entry.first self.old.stack.items) number).tree) }
-    {
-        let frame = Frame {
-            first: scope.first,
-            end: self.stack.len(),
-        };
-        let stack = self.stack.as_slice();
-        let built = build_local(alloc, stack, frame, number, &mut self.room, depth)?;
-        Ok(built)
-    }
-
-    /// Builds the projection of what a local stands for.
-    fn projection(
-        &mut self,
-        alloc: Global,
-        scope: Scope<'a>,
-        projection: Sym,
-        number: usize,
-        depth: u32,
-    ) -> Result<Term, Stop>
-        ensures ok { IfOk result (λ t. IsTermWritten self.old self.new depth (record { tree = app projection (trees ((value_at (locals_from scope.entry.first self.old.stack.items) number).tree ∷ [])); privates = [] }) t) }
-        ensures large { result ≡ Err Stop.TooLarge → IsTooLargeTerm self.old.room depth (app projection (trees ((value_at (locals_from scope.entry.first self.old.stack.items) number).tree ∷ []))) }
-    {
-        let frame = Frame {
-            first: scope.first,
-            end: self.stack.len(),
-        };
-        let stack = self.stack.as_slice();
-        let built = build_projection(
-            alloc,
-            stack,
-            frame,
-            projection,
-            number,
-            &mut self.room,
-            depth,
-        )?;
-        Ok(built)
-    }
-}
-
-/// Two processes with a sign between them.
-fn joined(alloc: Global, join: Join, first: Process, last: Process) -> Result<Process, NoMemory>
-    ensures { IfOk result (λ p. p ≡ joined join first last) }
-{
-    match join {
-        Join::ByParallel => Process::parallel(alloc, first, last),
-        Join::ByChoice => Process::choice(alloc, first, last),
     }
 }

@@ -48,35 +48,46 @@ otherwise false r x y e f = refl
 
 -- the declarations of a file
 
-module _ (all : List Decl) where
-  pub files_first : Says declarations all empty all empty
+module _ (all : List Decl) (start : Program) where
+  pub files_first : Says declarations all start all start
   files_first = record { said = refl }
 
-  pub files_next : (xs : List Decl) (i : ℕ) (d x : Decl) (now after : Program) → Says declarations all empty (drop i xs) now → i < length xs → get_or xs i d ≡ x → declaration x now ≡ done tt after → Says declarations all empty (drop (i + 1) xs) after
+  pub files_next :
+      (xs : List Decl) (i : ℕ) (d x : Decl) (now after : Program) → Says declarations all start (drop i xs) now → i < length xs → get_or xs i d ≡ x
+      → declaration x now ≡ done tt after → Says declarations all start (drop (i + 1) xs) after
   files_next xs i d x now after r h e o = record {
     said =
         r.said ∙ (ap (λ ds. declarations ds now) (drop_next xs i d x h e) ∙ ap (λ o. and_then o (λ u after. declarations (drop (i + 1) xs) after)) o);
   }
 
-  pub files_fault : (xs : List Decl) (i : ℕ) (d x : Decl) (now : Program) (fault : NameFault) → Says declarations all empty (drop i xs) now → i < length xs → get_or xs i d ≡ x → declaration x now ≡ faulty fault → declarations all empty ≡ faulty fault
+  pub files_fault :
+      (xs : List Decl) (i : ℕ) (d x : Decl) (now : Program) (fault : NameFault) → Says declarations all start (drop i xs) now → i < length xs
+      → get_or xs i d ≡ x → declaration x now ≡ faulty fault → declarations all start ≡ faulty fault
   files_fault xs i d x now fault r h e o =
       r.said ∙ (ap (λ ds. declarations ds now) (drop_next xs i d x h e) ∙ ap (λ o. and_then o (λ u after. declarations (drop (i + 1) xs) after)) o)
 
-  pub files_refused : (xs : List Decl) (i : ℕ) (d x : Decl) (now next : Program) (refusal : NameRefusal) → Says declarations all empty (drop i xs) now → i < length xs → get_or xs i d ≡ x → Answers {A = Unit {0}} {R = Unit {0}} (λ _. tt) next (Err refusal) (declaration x now) → IsRefused all refusal
+  pub files_refused :
+      (xs : List Decl) (i : ℕ) (d x : Decl) (now next : Program) (refusal : NameRefusal) → Says declarations all start (drop i xs) now → i < length xs
+      → get_or xs i d ≡ x → Answers {A = Unit {0}} {R = Unit {0}} (λ _. tt) next (Err refusal) (declaration x now) → Answers {A = Unit {0}} {R = Unit {0}} (λ _. tt) next (Err refusal)
+      (declarations all start)
   files_refused xs i d x now next (Fault f) r h e o = files_fault xs i d x now f r h e o
   files_refused xs i d x now next Memory r h e o = tt
 
-  pub files_last : (xs : List Decl) (i : ℕ) (now : Program) → Says declarations all empty (drop i xs) now → length xs ≡ i → declarations all empty ≡ done tt now
+  pub files_last : (xs : List Decl) (i : ℕ) (now : Program) → Says declarations all start (drop i xs) now → length xs ≡ i → declarations all start ≡ done tt now
   files_last xs i now r e = r.said ∙ ap (λ ds. declarations ds now) (ap (λ n. drop n xs) (sym e) ∙ drop-length xs)
 
-pub ruleset for_files = (files_first, files_next, files_fault, files_last)
+-- a file that is refused
+pub refused_by :
+    (decls : List Decl) (start next : Program) (refusal : NameRefusal) → start ≡ empty
+    → Answers {A = Unit {0}} {R = Unit {0}} (λ _. tt) next (Err refusal) (declarations decls start) → IsRefused decls refusal
+refused_by decls start next (Fault f) e h = ap (declarations decls) (sym e) ∙ h
+refused_by decls start next Memory e h = tt
+
+pub ruleset for_files = (files_first, files_next, files_last)
 
 -- texts that may be declared
 
-pub spelled : (text : List ℕ) (b : Bool) → b ≡ is_reserved text → b ≡ false → IsIdentifier text
-spelled text b is e = unreserved text (sym is ∙ e)
-
-no_projection : (text : List ℕ) → is_reserved text ≡ false → begins_as_projection text ≡ false
+pub no_projection : (text : List ℕ) → is_reserved text ≡ false → begins_as_projection text ≡ false
 no_projection text e = go (begins_as_projection text) _ e
   where
     go : (a b : Bool) → (a || b) ≡ false → a ≡ false
@@ -103,7 +114,7 @@ module _ (s : Signature) (ds : List Definition) (text : List ℕ) where
       sym (otherwise (begins_as_projection text) false unknown (function_or_named s ds text (symbol_named s text)) (sym plain) refl) ∙ (sym f ∙ u) in
       no_process _ (no_name _ (no_function _ looked))
 
-pub ruleset for_new_names = (spelled, undefined)
+pub ruleset for_new_names = (undefined)
 
 -- the mark `private`
 
@@ -117,12 +128,16 @@ module _ (all : Parts) where
   pub marks_inner : (xs : List Part) (i : ℕ) (d : Part) (t : Derivation) → IsUnmarked all (parts_of (drop i xs)) → i < length xs → get_or xs i d ≡ Inner t → IsUnmarked all (parts_of (drop (i + 1) xs))
   marks_inner xs i d t r h e = record { same = r.same ∙ ap is_marked_private (at_inner xs i d t h e) }
 
-  pub marks_token : (xs : List Part) (i : ℕ) (d : Part) (l : Lexeme) (b : Bool) → IsUnmarked all (parts_of (drop i xs)) → i < length xs → get_or xs i d ≡ Token l → b ≡ is_kind kinds.Private l → b ≡ false → IsUnmarked all (parts_of (drop (i + 1) xs))
+  pub marks_token :
+      (xs : List Part) (i : ℕ) (d : Part) (l : Lexeme) (b : Bool) → IsUnmarked all (parts_of (drop i xs)) → i < length xs → get_or xs i d ≡ Token l
+      → b ≡ is_kind kinds.Private l → b ≡ false → IsUnmarked all (parts_of (drop (i + 1) xs))
   marks_token xs i d l b r h e k f = record {
     same = r.same ∙ (ap is_marked_private (at_token xs i d l h e) ∙ ap (λ c. c || is_marked_private (parts_of (drop (i + 1) xs))) (sym k ∙ f));
   }
 
-  pub marks_found : (xs : List Part) (i : ℕ) (d : Part) (l : Lexeme) (b : Bool) → IsUnmarked all (parts_of (drop i xs)) → i < length xs → get_or xs i d ≡ Token l → b ≡ is_kind kinds.Private l → b ≡ true → true ≡ is_marked_private all
+  pub marks_found :
+      (xs : List Part) (i : ℕ) (d : Part) (l : Lexeme) (b : Bool) → IsUnmarked all (parts_of (drop i xs)) → i < length xs → get_or xs i d ≡ Token l
+      → b ≡ is_kind kinds.Private l → b ≡ true → true ≡ is_marked_private all
   marks_found xs i d l b r h e k t = sym (r.same ∙ (ap is_marked_private (at_token xs i d l h e) ∙ ap (λ c. c || is_marked_private (parts_of (drop (i + 1) xs))) (sym k ∙ t)))
 
   pub marks_last : (xs : List Part) (i : ℕ) → IsUnmarked all (parts_of (drop i xs)) → length xs ≡ i → false ≡ is_marked_private all
@@ -136,25 +151,38 @@ module _ (p : Bool) (all : Parts) (start : Program) where
   pub names_first : Says (declare_names p) all start all start
   names_first = record { said = refl }
 
-  pub names_inner : (xs : List Part) (i : ℕ) (d : Part) (t : Derivation) (now : Program) → Says (declare_names p) all start (parts_of (drop i xs)) now → i < length xs → get_or xs i d ≡ Inner t → Says (declare_names p) all start (parts_of (drop (i + 1) xs)) now
+  pub names_inner :
+      (xs : List Part) (i : ℕ) (d : Part) (t : Derivation) (now : Program) → Says (declare_names p) all start (parts_of (drop i xs)) now
+      → i < length xs → get_or xs i d ≡ Inner t → Says (declare_names p) all start (parts_of (drop (i + 1) xs)) now
   names_inner xs i d t now r h e = record { said = r.said ∙ ap (λ ps. declare_names p ps now) (at_inner xs i d t h e) }
 
-  pub names_sign : (xs : List Part) (i : ℕ) (d : Part) (l : Lexeme) (b : Bool) (now : Program) → Says (declare_names p) all start (parts_of (drop i xs)) now → i < length xs → get_or xs i d ≡ Token l → b ≡ is_kind kinds.Identifier l → b ≡ false → Says (declare_names p) all start (parts_of (drop (i + 1) xs)) now
+  pub names_sign :
+      (xs : List Part) (i : ℕ) (d : Part) (l : Lexeme) (b : Bool) (now : Program) → Says (declare_names p) all start (parts_of (drop i xs)) now
+      → i < length xs → get_or xs i d ≡ Token l → b ≡ is_kind kinds.Identifier l → b ≡ false
+      → Says (declare_names p) all start (parts_of (drop (i + 1) xs)) now
   names_sign xs i d l b now r h e k f = record {
     said = r.said ∙ (ap (λ ps. declare_names p ps now) (at_token xs i d l h e) ∙ otherwise _ b _ _ k f);
   }
 
-  taken : (ps : Parts) (l : Lexeme) (b : Bool) (now : Program) → b ≡ is_kind kinds.Identifier l → b ≡ true → declare_names p (token l ps) now ≡ and_then (one_name p l now) (λ u after. declare_names p ps after)
+  taken :
+      (ps : Parts) (l : Lexeme) (b : Bool) (now : Program) → b ≡ is_kind kinds.Identifier l → b ≡ true
+      → declare_names p (token l ps) now ≡ and_then (one_name p l now) (λ u after. declare_names p ps after)
   taken ps l b now k t = chosen _ b _ _ k t ∙ sym (assoc (declaring l now) _ _)
 
-  pub names_next : (xs : List Part) (i : ℕ) (d : Part) (l : Lexeme) (b : Bool) (now after : Program) → Says (declare_names p) all start (parts_of (drop i xs)) now → i < length xs → get_or xs i d ≡ Token l → b ≡ is_kind kinds.Identifier l → b ≡ true → one_name p l now ≡ done tt after → Says (declare_names p) all start (parts_of (drop (i + 1) xs)) after
+  pub names_next :
+      (xs : List Part) (i : ℕ) (d : Part) (l : Lexeme) (b : Bool) (now after : Program) → Says (declare_names p) all start (parts_of (drop i xs)) now
+      → i < length xs → get_or xs i d ≡ Token l → b ≡ is_kind kinds.Identifier l → b ≡ true → one_name p l now ≡ done tt after
+      → Says (declare_names p) all start (parts_of (drop (i + 1) xs)) after
   names_next xs i d l b now after r h e k t o = record {
     said =
         r.said ∙ (ap (λ ps. declare_names p ps now) (at_token xs i d l h e) ∙ (taken (parts_of (drop (i + 1) xs)) l b now k t
         ∙ ap (λ o. and_then o (λ u after. declare_names p (parts_of (drop (i + 1) xs)) after)) o));
   }
 
-  pub names_fault : (xs : List Part) (i : ℕ) (d : Part) (l : Lexeme) (b : Bool) (now : Program) (f : NameFault) → Says (declare_names p) all start (parts_of (drop i xs)) now → i < length xs → get_or xs i d ≡ Token l → b ≡ is_kind kinds.Identifier l → b ≡ true → one_name p l now ≡ faulty f → declare_names p all start ≡ faulty f
+  pub names_fault :
+      (xs : List Part) (i : ℕ) (d : Part) (l : Lexeme) (b : Bool) (now : Program) (f : NameFault)
+      → Says (declare_names p) all start (parts_of (drop i xs)) now → i < length xs → get_or xs i d ≡ Token l → b ≡ is_kind kinds.Identifier l
+      → b ≡ true → one_name p l now ≡ faulty f → declare_names p all start ≡ faulty f
   names_fault xs i d l b now f r h e k t o =
       r.said ∙ (ap (λ ps. declare_names p ps now) (at_token xs i d l h e) ∙ (taken (parts_of (drop (i + 1) xs)) l b now k t
       ∙ ap (λ o. and_then o (λ u after. declare_names p (parts_of (drop (i + 1) xs)) after)) o))
@@ -170,19 +198,28 @@ module _ (all : Parts) (start : Program) where
   pub functions_first : Says functions all start all start
   functions_first = record { said = refl }
 
-  opened : (parts behind : Parts) (name arity : Lexeme) (now : Program) → IsFunction parts name arity behind → functions parts now ≡ and_then (one_function name arity now) (λ u after. functions behind after)
+  opened :
+      (parts behind : Parts) (name arity : Lexeme) (now : Program) → IsFunction parts name arity behind
+      → functions parts now ≡ and_then (one_function name arity now) (λ u after. functions behind after)
   opened parts behind name arity now s = ap (λ ps. functions ps now) s.split ∙ sym (assoc (declaring name now) _ _)
 
-  pub functions_next : (parts behind : Parts) (name arity : Lexeme) (now after : Program) → Says functions all start parts now → IsFunction parts name arity behind → one_function name arity now ≡ done tt after → Says functions all start behind after
+  pub functions_next :
+      (parts behind : Parts) (name arity : Lexeme) (now after : Program) → Says functions all start parts now → IsFunction parts name arity behind
+      → one_function name arity now ≡ done tt after → Says functions all start behind after
   functions_next parts behind name arity now after r s o = record {
     said = r.said ∙ (opened parts behind name arity now s ∙ ap (λ o. and_then o (λ u after. functions behind after)) o);
   }
 
-  pub functions_fault : (parts behind : Parts) (name arity : Lexeme) (now : Program) (f : NameFault) → Says functions all start parts now → IsFunction parts name arity behind → one_function name arity now ≡ faulty f → functions all start ≡ faulty f
+  pub functions_fault :
+      (parts behind : Parts) (name arity : Lexeme) (now : Program) (f : NameFault) → Says functions all start parts now
+      → IsFunction parts name arity behind → one_function name arity now ≡ faulty f → functions all start ≡ faulty f
   functions_fault parts behind name arity now f r s o =
       r.said ∙ (opened parts behind name arity now s ∙ ap (λ o. and_then o (λ u after. functions behind after)) o)
 
-  pub functions_refused : (parts behind : Parts) (name arity : Lexeme) (now next : Program) (refusal : NameRefusal) → Says functions all start parts now → IsFunction parts name arity behind → Answers {A = Unit {0}} {R = Unit {0}} (λ _. tt) next (Err refusal) (one_function name arity now) → Answers {A = Unit {0}} {R = Unit {0}} (λ _. tt) next (Err refusal) (functions all start)
+  pub functions_refused :
+      (parts behind : Parts) (name arity : Lexeme) (now next : Program) (refusal : NameRefusal) → Says functions all start parts now
+      → IsFunction parts name arity behind → Answers {A = Unit {0}} {R = Unit {0}} (λ _. tt) next (Err refusal) (one_function name arity now)
+      → Answers {A = Unit {0}} {R = Unit {0}} (λ _. tt) next (Err refusal) (functions all start)
   functions_refused parts behind name arity now next (Fault f) r s o = functions_fault parts behind name arity now f r s o
   functions_refused parts behind name arity now next Memory r s o = tt
 
@@ -197,15 +234,21 @@ module _ (all : Parts) (start : Program) where
   pub rules_first : Says rules all start all start
   rules_first = record { said = refl }
 
-  pub rules_sign : (xs : List Part) (i : ℕ) (d : Part) (l : Lexeme) (now : Program) → Says rules all start (parts_of (drop i xs)) now → i < length xs → get_or xs i d ≡ Token l → Says rules all start (parts_of (drop (i + 1) xs)) now
+  pub rules_sign :
+      (xs : List Part) (i : ℕ) (d : Part) (l : Lexeme) (now : Program) → Says rules all start (parts_of (drop i xs)) now → i < length xs
+      → get_or xs i d ≡ Token l → Says rules all start (parts_of (drop (i + 1) xs)) now
   rules_sign xs i d l now r h e = record { said = r.said ∙ ap (λ ps. rules ps now) (at_token xs i d l h e) }
 
-  pub rules_next : (xs : List Part) (i : ℕ) (d : Part) (t : Derivation) (now after : Program) → Says rules all start (parts_of (drop i xs)) now → i < length xs → get_or xs i d ≡ Inner t → rule_in now t.parts ≡ done tt after → Says rules all start (parts_of (drop (i + 1) xs)) after
+  pub rules_next :
+      (xs : List Part) (i : ℕ) (d : Part) (t : Derivation) (now after : Program) → Says rules all start (parts_of (drop i xs)) now → i < length xs
+      → get_or xs i d ≡ Inner t → rule_in now t.parts ≡ done tt after → Says rules all start (parts_of (drop (i + 1) xs)) after
   rules_next xs i d t now after r h e o = record {
     said = r.said ∙ (ap (λ ps. rules ps now) (at_inner xs i d t h e) ∙ ap (λ o. and_then o (λ u after. rules (parts_of (drop (i + 1) xs)) after)) o);
   }
 
-  pub rules_fault : (xs : List Part) (i : ℕ) (d : Part) (t : Derivation) (now : Program) (f : NameFault) → Says rules all start (parts_of (drop i xs)) now → i < length xs → get_or xs i d ≡ Inner t → rule_in now t.parts ≡ faulty f → rules all start ≡ faulty f
+  pub rules_fault :
+      (xs : List Part) (i : ℕ) (d : Part) (t : Derivation) (now : Program) (f : NameFault) → Says rules all start (parts_of (drop i xs)) now
+      → i < length xs → get_or xs i d ≡ Inner t → rule_in now t.parts ≡ faulty f → rules all start ≡ faulty f
   rules_fault xs i d t now f r h e o = r.said ∙ (ap (λ ps. rules ps now) (at_inner xs i d t h e) ∙ ap (λ o. and_then o (λ u after. rules (parts_of (drop (i + 1) xs)) after)) o)
 
   pub rules_last : (xs : List Part) (i : ℕ) (now : Program) → Says rules all start (parts_of (drop i xs)) now → length xs ≡ i → rules all start ≡ done tt now
@@ -222,10 +265,14 @@ module _ (all : Parts) where
   pub parameters_first : Lists all all []
   parameters_first = record { said = λ program. refl }
 
-  pub parameters_inner : (xs : List Part) (i : ℕ) (d : Part) (t : Derivation) (texts : List (List ℕ)) → Lists all (parts_of (drop i xs)) texts → i < length xs → get_or xs i d ≡ Inner t → Lists all (parts_of (drop (i + 1) xs)) texts
+  pub parameters_inner :
+      (xs : List Part) (i : ℕ) (d : Part) (t : Derivation) (texts : List (List ℕ)) → Lists all (parts_of (drop i xs)) texts → i < length xs
+      → get_or xs i d ≡ Inner t → Lists all (parts_of (drop (i + 1) xs)) texts
   parameters_inner xs i d t texts r h e = record { said = λ program. r.said program ∙ ap (λ ps. parameters ps texts program) (at_inner xs i d t h e) }
 
-  pub parameters_sign : (xs : List Part) (i : ℕ) (d : Part) (l : Lexeme) (b : Bool) (texts : List (List ℕ)) → Lists all (parts_of (drop i xs)) texts → i < length xs → get_or xs i d ≡ Token l → b ≡ is_kind kinds.Identifier l → b ≡ false → Lists all (parts_of (drop (i + 1) xs)) texts
+  pub parameters_sign :
+      (xs : List Part) (i : ℕ) (d : Part) (l : Lexeme) (b : Bool) (texts : List (List ℕ)) → Lists all (parts_of (drop i xs)) texts → i < length xs
+      → get_or xs i d ≡ Token l → b ≡ is_kind kinds.Identifier l → b ≡ false → Lists all (parts_of (drop (i + 1) xs)) texts
   parameters_sign xs i d l b texts r h e k f = record {
     said = λ program. r.said program ∙ (ap (λ ps. parameters ps texts program) (at_token xs i d l h e) ∙ otherwise _ b _ _ k f);
   }
@@ -248,14 +295,20 @@ module _ (all : Parts) where
       ap faulty same
   twice ps l false texts f program e = cc
 
-  pub parameters_next : (xs : List Part) (i : ℕ) (d : Part) (l : Lexeme) (b : Bool) (texts after : List (List ℕ)) → Lists all (parts_of (drop i xs)) texts → i < length xs → get_or xs i d ≡ Token l → b ≡ is_kind kinds.Identifier l → b ≡ true → one_parameter l texts ≡ done tt after → Lists all (parts_of (drop (i + 1) xs)) after
+  pub parameters_next :
+      (xs : List Part) (i : ℕ) (d : Part) (l : Lexeme) (b : Bool) (texts after : List (List ℕ)) → Lists all (parts_of (drop i xs)) texts
+      → i < length xs → get_or xs i d ≡ Token l → b ≡ is_kind kinds.Identifier l → b ≡ true → one_parameter l texts ≡ done tt after
+      → Lists all (parts_of (drop (i + 1) xs)) after
   parameters_next xs i d l b texts after r h e k t o = record {
     said =
         λ program. r.said program ∙ (ap (λ ps. parameters ps texts program) (at_token xs i d l h e) ∙ (chosen _ b _ _ k t
         ∙ added (parts_of (drop (i + 1) xs)) l (is_among l.text texts) texts after program o));
   }
 
-  pub parameters_refused : (xs : List Part) (i : ℕ) (d : Part) (l : Lexeme) (b : Bool) (texts after : List (List ℕ)) (refusal : NameRefusal) → Lists all (parts_of (drop i xs)) texts → i < length xs → get_or xs i d ≡ Token l → b ≡ is_kind kinds.Identifier l → b ≡ true → Answers {A = Unit {0}} {R = Unit {0}} (λ _. tt) after (Err refusal) (one_parameter l texts) → AreParameters all (Err refusal)
+  pub parameters_refused :
+      (xs : List Part) (i : ℕ) (d : Part) (l : Lexeme) (b : Bool) (texts after : List (List ℕ)) (refusal : NameRefusal)
+      → Lists all (parts_of (drop i xs)) texts → i < length xs → get_or xs i d ≡ Token l → b ≡ is_kind kinds.Identifier l → b ≡ true
+      → Answers {A = Unit {0}} {R = Unit {0}} (λ _. tt) after (Err refusal) (one_parameter l texts) → AreParameters all (Err refusal)
   parameters_refused xs i d l b texts after (Fault f) r h e k t o = record {
     answers =
         λ program. r.said program ∙ (ap (λ ps. parameters ps texts program) (at_token xs i d l h e) ∙ (chosen _ b _ _ k t
@@ -277,13 +330,17 @@ module _ (all : Parts) where
   pub leaves_first : IsBare all all
   leaves_first = record { same = refl }
 
-  pub leaves_inner : (xs : List Part) (i : ℕ) (d : Part) (t : Derivation) → IsBare all (parts_of (drop i xs)) → i < length xs → get_or xs i d ≡ Inner t → first_lexeme t.parts ≡ None → IsBare all (parts_of (drop (i + 1) xs))
+  pub leaves_inner :
+      (xs : List Part) (i : ℕ) (d : Part) (t : Derivation) → IsBare all (parts_of (drop i xs)) → i < length xs → get_or xs i d ≡ Inner t
+      → first_lexeme t.parts ≡ None → IsBare all (parts_of (drop (i + 1) xs))
   leaves_inner xs i d t r h e n = record { same = r.same ∙ (ap first_lexeme (at_inner xs i d t h e) ∙ ap (λ o. earlier o (first_lexeme (parts_of (drop (i + 1) xs)))) n) }
 
   pub leaves_token : (xs : List Part) (i : ℕ) (d : Part) (l : Lexeme) → IsBare all (parts_of (drop i xs)) → i < length xs → get_or xs i d ≡ Token l → first_lexeme all ≡ Some l
   leaves_token xs i d l r h e = r.same ∙ ap first_lexeme (at_token xs i d l h e)
 
-  pub leaves_within : (xs : List Part) (i : ℕ) (d : Part) (t : Derivation) (l : Lexeme) → IsBare all (parts_of (drop i xs)) → i < length xs → get_or xs i d ≡ Inner t → first_lexeme t.parts ≡ Some l → first_lexeme all ≡ Some l
+  pub leaves_within :
+      (xs : List Part) (i : ℕ) (d : Part) (t : Derivation) (l : Lexeme) → IsBare all (parts_of (drop i xs)) → i < length xs → get_or xs i d ≡ Inner t
+      → first_lexeme t.parts ≡ Some l → first_lexeme all ≡ Some l
   leaves_within xs i d t l r h e f = r.same ∙ (ap first_lexeme (at_inner xs i d t h e) ∙ ap (λ o. earlier o (first_lexeme (parts_of (drop (i + 1) xs)))) f)
 
   pub leaves_last : (xs : List Part) (i : ℕ) → IsBare all (parts_of (drop i xs)) → length xs ≡ i → first_lexeme all ≡ None
@@ -294,15 +351,22 @@ pub ruleset for_leaves = (leaves_first, leaves_inner, leaves_token, leaves_withi
 -- processes in a draft, of which the signature changes
 
 module _ {R : Type 0} (view : R → List Body) (parts : Parts) (scope : Locals) (before after : Signature) (rs : List WrittenRule) (ds : List Definition) (left right : Side) where
-  pub body_told : (r : R) (b : Body) → parallels ds scope parts before ≡ done (view r) after → b ≡ joined parallel (view r) → body_of parts scope (record { signature = before; rules = rs; definitions = ds; left = left; right = right }) ≡ done b (record { signature = after; rules = rs; definitions = ds; left = left; right = right })
+  pub body_told :
+      (r : R) (b : Body) → parallels ds scope parts before ≡ done (view r) after → b ≡ joined parallel (view r)
+      → body_of parts scope (record { signature = before; rules = rs; definitions = ds; left = left; right = right }) ≡ done b
+      (record { signature = after; rules = rs; definitions = ds; left = left; right = right })
   body_told r b e j =
       ap (λ o. and_then (in_signature (record { signature = before; rules = rs; definitions = ds; left = left; right = right }) o) (λ ps program. done (joined parallel ps) program)) e
       ∙ ap (λ p. done p (record { signature = after; rules = rs; definitions = ds; left = left; right = right })) (sym j)
 
-  refused : (refusal : NameRefusal) (next : Program) → Answers view after (Err refusal) (parallels ds scope parts before) → Answers {A = Body} {R = Body} (λ p. p) next (Err refusal) (body_of parts scope (record { signature = before; rules = rs; definitions = ds; left = left; right = right }))
+  refused :
+      (refusal : NameRefusal) (next : Program) → Answers view after (Err refusal) (parallels ds scope parts before)
+      → Answers {A = Body} {R = Body} (λ p. p) next (Err refusal) (body_of parts scope (record { signature = before; rules = rs; definitions = ds; left = left; right = right }))
   refused (Fault f) next e =
       ap (λ o. and_then (in_signature (record { signature = before; rules = rs; definitions = ds; left = left; right = right }) o) (λ ps program. done (joined parallel ps) program)) e
   refused Memory next e = tt
 
-  pub body_refused : (r : Result R NameRefusal) (refusal : NameRefusal) (next : Program) → r ≡ Err refusal → Answers view after r (parallels ds scope parts before) → Answers {A = Body} {R = Body} (λ p. p) next (Err refusal) (body_of parts scope (record { signature = before; rules = rs; definitions = ds; left = left; right = right }))
+  pub body_refused :
+      (r : Result R NameRefusal) (refusal : NameRefusal) (next : Program) → r ≡ Err refusal → Answers view after r (parallels ds scope parts before)
+      → Answers {A = Body} {R = Body} (λ p. p) next (Err refusal) (body_of parts scope (record { signature = before; rules = rs; definitions = ds; left = left; right = right }))
   body_refused r refusal next is e = refused refusal next (subst (λ x. Answers view after x (parallels ds scope parts before)) is e)

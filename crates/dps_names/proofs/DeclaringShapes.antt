@@ -59,8 +59,11 @@ functions_case3 l0 l1 l2 (inner p i ps) h = record { says = λ program. refl }
 pub functions_ends3 : (P0 P1 P2 P3 : Parts) (l0 : Lexeme) (l1 : Lexeme) (l2 : Lexeme) → P0 ≡ token l0 P1 → P1 ≡ token l1 P2 → P2 ≡ token l2 P3 → HasNoToken P3 → IsNoFunction P0
 functions_ends3 P0 P1 P2 P3 l0 l1 l2 e0 e1 e2 h = subst IsNoFunction (sym (e0 ∙ (ap (λ x. (token l0 x)) e1 ∙ (ap (λ x. (token l0 (token l1 x))) e2)))) (functions_case3 l0 l1 l2 P3 h)
 
-pub functions_stands : (P0 P1 P2 P3 P4 : Parts) (l0 : Lexeme) (l1 : Lexeme) (l2 : Lexeme) (l3 : Lexeme) → P0 ≡ token l0 P1 → P1 ≡ token l1 P2 → P2 ≡ token l2 P3 → P3 ≡ token l3 P4 → IsFunction P0 l1 l3 P4
-functions_stands P0 P1 P2 P3 P4 l0 l1 l2 l3 e0 e1 e2 e3 = record { word = l0; slash = l2; split = e0 ∙ (ap (λ x. (token l0 x)) e1 ∙ (ap (λ x. (token l0 (token l1 x))) e2 ∙ (ap (λ x. (token l0 (token l1 (token l2 x)))) e3))) }
+pub functions_stands :
+    (P0 P1 P2 P3 P4 : Parts) (l0 : Lexeme) (l1 : Lexeme) (l2 : Lexeme) (l3 : Lexeme) → P0 ≡ token l0 P1 → P1 ≡ token l1 P2 → P2 ≡ token l2 P3
+    → P3 ≡ token l3 P4 → IsFunction P0 l1 l3 P4
+functions_stands P0 P1 P2 P3 P4 l0 l1 l2 l3 e0 e1 e2 e3 =
+    record { word = l0; slash = l2; split = e0 ∙ (ap (λ x. (token l0 x)) e1 ∙ (ap (λ x. (token l0 (token l1 x))) e2 ∙ (ap (λ x. (token l0 (token l1 (token l2 x)))) e3))) }
 
 pub ruleset for_functions = (functions_ends0, functions_ends1, functions_ends2, functions_ends3, functions_stands)
 
@@ -125,11 +128,24 @@ definition_case3 l0 l1 l2 (inner p i ps) h = absurd h
 pub definition_ends3 : (P0 P1 P2 P3 : Parts) (l0 : Lexeme) (l1 : Lexeme) (l2 : Lexeme) → P0 ≡ token l0 P1 → P1 ≡ token l1 P2 → P2 ≡ token l2 P3 → HasNoInner P3 → IsNoDefinition P0
 definition_ends3 P0 P1 P2 P3 l0 l1 l2 e0 e1 e2 h = subst IsNoDefinition (sym (e0 ∙ (ap (λ x. (token l0 x)) e1 ∙ (ap (λ x. (token l0 (token l1 x))) e2)))) (definition_case3 l0 l1 l2 P3 h)
 
-pub definition_with : (P0 P1 P2 P3 P4 : Parts) (l0 : Lexeme) (l1 : Lexeme) (l2 : Lexeme) (i3 : Parts) (body : Parts) → P0 ≡ token l0 P1 → P1 ≡ token l1 P2 → P2 ≡ token l2 P3 → IsLed P3 i3 P4 → HasBody P4 body → IsDefinition P0 l1 i3 body
-definition_with P0 P1 P2 P3 P4 l0 l1 l2 i3 body e0 e1 e2 e3 b = record { says = λ program. ap (λ x. define x program) (e0 ∙ (ap (λ x. (token l0 x)) e1 ∙ (ap (λ x. (token l0 (token l1 x))) e2 ∙ (ap (λ x. (token l0 (token l1 (token l2 x)))) e3.split))) ∙ ap (λ x. token l0 (token l1 (token l2 (inner e3.p i3 x)))) b.split) }
+pub definition_with :
+    (P0 P1 P2 P3 P4 : Parts) (l0 : Lexeme) (l1 : Lexeme) (l2 : Lexeme) (i3 : Parts) (body : Parts) → P0 ≡ token l0 P1 → P1 ≡ token l1 P2
+    → P2 ≡ token l2 P3 → IsLed P3 i3 P4 → HasBody P4 body → IsDefinition P0 l1 i3 body
+definition_with P0 P1 P2 P3 P4 l0 l1 l2 i3 body e0 e1 e2 e3 b =
+    record {
+      says = λ program. ap (λ x. define x program)
+          (e0 ∙ (ap (λ x. (token l0 x)) e1 ∙ (ap (λ x. (token l0 (token l1 x))) e2 ∙ (ap (λ x. (token l0 (token l1 (token l2 x)))) e3.split))) ∙ ap
+          (λ x. token l0 (token l1 (token l2 (inner e3.p i3 x)))) b.split);
+    }
 
-pub definition_without : (P0 P1 P2 P3 P4 : Parts) (l0 : Lexeme) (l1 : Lexeme) (l2 : Lexeme) (i3 : Parts) → P0 ≡ token l0 P1 → P1 ≡ token l1 P2 → P2 ≡ token l2 P3 → IsLed P3 i3 P4 → HasNoBody P4 → IsDefinition P0 l1 none i3
-definition_without P0 P1 P2 P3 P4 l0 l1 l2 i3 e0 e1 e2 e3 b = record { says = λ program. ap (λ x. define x program) (e0 ∙ (ap (λ x. (token l0 x)) e1 ∙ (ap (λ x. (token l0 (token l1 x))) e2 ∙ (ap (λ x. (token l0 (token l1 (token l2 x)))) e3.split)))) ∙ b.says l0 l1 l2 e3.p i3 program }
+pub definition_without :
+    (P0 P1 P2 P3 P4 : Parts) (l0 : Lexeme) (l1 : Lexeme) (l2 : Lexeme) (i3 : Parts) → P0 ≡ token l0 P1 → P1 ≡ token l1 P2 → P2 ≡ token l2 P3
+    → IsLed P3 i3 P4 → HasNoBody P4 → IsDefinition P0 l1 none i3
+definition_without P0 P1 P2 P3 P4 l0 l1 l2 i3 e0 e1 e2 e3 b =
+    record {
+      says = λ program. ap (λ x. define x program) (e0 ∙ (ap (λ x. (token l0 x)) e1 ∙ (ap (λ x. (token l0 (token l1 x))) e2 ∙ (ap (λ x. (token l0 (token l1 (token l2 x)))) e3.split)))) ∙
+          b.says l0 l1 l2 e3.p i3 program;
+    }
 
 pub ruleset for_definitions = (definition_ends0, definition_ends1, definition_ends2, definition_ends3, definition_with, definition_without)
 
@@ -170,18 +186,38 @@ query_case4 l0 l1 l2 p3 i3 none h = record { says = λ program. refl }
 query_case4 l0 l1 l2 p3 i3 (token l ps) h = absurd h
 query_case4 l0 l1 l2 p3 i3 (inner p i ps) h = record { says = λ program. refl }
 
-pub query_ends4 : (P0 P1 P2 P3 P4 : Parts) (l0 : Lexeme) (l1 : Lexeme) (l2 : Lexeme) (i3 : Parts) → P0 ≡ token l0 P1 → P1 ≡ token l1 P2 → P2 ≡ token l2 P3 → IsLed P3 i3 P4 → HasNoToken P4 → IsNoQuery P0
-query_ends4 P0 P1 P2 P3 P4 l0 l1 l2 i3 e0 e1 e2 e3 h = subst IsNoQuery (sym (e0 ∙ (ap (λ x. (token l0 x)) e1 ∙ (ap (λ x. (token l0 (token l1 x))) e2 ∙ (ap (λ x. (token l0 (token l1 (token l2 x)))) e3.split))))) (query_case4 l0 l1 l2 e3.p i3 P4 h)
+pub query_ends4 :
+    (P0 P1 P2 P3 P4 : Parts) (l0 : Lexeme) (l1 : Lexeme) (l2 : Lexeme) (i3 : Parts) → P0 ≡ token l0 P1 → P1 ≡ token l1 P2 → P2 ≡ token l2 P3
+    → IsLed P3 i3 P4 → HasNoToken P4 → IsNoQuery P0
+query_ends4 P0 P1 P2 P3 P4 l0 l1 l2 i3 e0 e1 e2 e3 h =
+    subst IsNoQuery (sym (e0 ∙ (ap (λ x. (token l0 x)) e1 ∙ (ap (λ x. (token l0 (token l1 x))) e2 ∙ (ap (λ x. (token l0 (token l1 (token l2 x)))) e3.split))))) (query_case4 l0 l1 l2 e3.p i3 P4 h)
 
-query_case5 : (l0 : Lexeme) (l1 : Lexeme) (l2 : Lexeme) (p3 : Production) (i3 : Parts) (l4 : Lexeme) (ps : Parts) → HasNoInner ps → IsNoQuery (token l0 (token l1 (token l2 (inner p3 i3 (token l4 ps)))))
+query_case5 :
+    (l0 : Lexeme) (l1 : Lexeme) (l2 : Lexeme) (p3 : Production) (i3 : Parts) (l4 : Lexeme) (ps : Parts) → HasNoInner ps
+    → IsNoQuery (token l0 (token l1 (token l2 (inner p3 i3 (token l4 ps)))))
 query_case5 l0 l1 l2 p3 i3 l4 none h = record { says = λ program. refl }
 query_case5 l0 l1 l2 p3 i3 l4 (token l ps) h = record { says = λ program. refl }
 query_case5 l0 l1 l2 p3 i3 l4 (inner p i ps) h = absurd h
 
-pub query_ends5 : (P0 P1 P2 P3 P4 P5 : Parts) (l0 : Lexeme) (l1 : Lexeme) (l2 : Lexeme) (i3 : Parts) (l4 : Lexeme) → P0 ≡ token l0 P1 → P1 ≡ token l1 P2 → P2 ≡ token l2 P3 → IsLed P3 i3 P4 → P4 ≡ token l4 P5 → HasNoInner P5 → IsNoQuery P0
-query_ends5 P0 P1 P2 P3 P4 P5 l0 l1 l2 i3 l4 e0 e1 e2 e3 e4 h = subst IsNoQuery (sym (e0 ∙ (ap (λ x. (token l0 x)) e1 ∙ (ap (λ x. (token l0 (token l1 x))) e2 ∙ (ap (λ x. (token l0 (token l1 (token l2 x)))) e3.split ∙ (ap (λ x. (token l0 (token l1 (token l2 (inner e3.p i3 x))))) e4)))))) (query_case5 l0 l1 l2 e3.p i3 l4 P5 h)
+pub query_ends5 :
+    (P0 P1 P2 P3 P4 P5 : Parts) (l0 : Lexeme) (l1 : Lexeme) (l2 : Lexeme) (i3 : Parts) (l4 : Lexeme) → P0 ≡ token l0 P1 → P1 ≡ token l1 P2
+    → P2 ≡ token l2 P3 → IsLed P3 i3 P4 → P4 ≡ token l4 P5 → HasNoInner P5 → IsNoQuery P0
+query_ends5 P0 P1 P2 P3 P4 P5 l0 l1 l2 i3 l4 e0 e1 e2 e3 e4 h =
+    subst IsNoQuery (sym (e0 ∙
+    (ap (λ x. (token l0 x)) e1 ∙
+    (ap (λ x. (token l0 (token l1 x))) e2 ∙ (ap (λ x. (token l0 (token l1 (token l2 x)))) e3.split ∙ (ap (λ x. (token l0 (token l1 (token l2 (inner e3.p i3 x))))) e4))))))
+    (query_case5 l0 l1 l2 e3.p i3 l4 P5 h)
 
-pub query_stands : (P0 P1 P2 P3 P4 P5 P6 : Parts) (l0 : Lexeme) (l1 : Lexeme) (l2 : Lexeme) (i3 : Parts) (l4 : Lexeme) (i5 : Parts) → P0 ≡ token l0 P1 → P1 ≡ token l1 P2 → P2 ≡ token l2 P3 → IsLed P3 i3 P4 → P4 ≡ token l4 P5 → IsLed P5 i5 P6 → IsQuery P0 i3 i5
-query_stands P0 P1 P2 P3 P4 P5 P6 l0 l1 l2 i3 l4 i5 e0 e1 e2 e3 e4 e5 = record { says = λ program. ap (λ x. query x program) (e0 ∙ (ap (λ x. (token l0 x)) e1 ∙ (ap (λ x. (token l0 (token l1 x))) e2 ∙ (ap (λ x. (token l0 (token l1 (token l2 x)))) e3.split ∙ (ap (λ x. (token l0 (token l1 (token l2 (inner e3.p i3 x))))) e4 ∙ (ap (λ x. (token l0 (token l1 (token l2 (inner e3.p i3 (token l4 x)))))) e5.split)))))) }
+pub query_stands :
+    (P0 P1 P2 P3 P4 P5 P6 : Parts) (l0 : Lexeme) (l1 : Lexeme) (l2 : Lexeme) (i3 : Parts) (l4 : Lexeme) (i5 : Parts) → P0 ≡ token l0 P1
+    → P1 ≡ token l1 P2 → P2 ≡ token l2 P3 → IsLed P3 i3 P4 → P4 ≡ token l4 P5 → IsLed P5 i5 P6 → IsQuery P0 i3 i5
+query_stands P0 P1 P2 P3 P4 P5 P6 l0 l1 l2 i3 l4 i5 e0 e1 e2 e3 e4 e5 =
+    record {
+      says = λ program. ap (λ x. query x program)
+          (e0 ∙ (ap (λ x. (token l0 x)) e1 ∙
+          (ap (λ x. (token l0 (token l1 x))) e2 ∙
+          (ap (λ x. (token l0 (token l1 (token l2 x)))) e3.split ∙
+          (ap (λ x. (token l0 (token l1 (token l2 (inner e3.p i3 x))))) e4 ∙ (ap (λ x. (token l0 (token l1 (token l2 (inner e3.p i3 (token l4 x)))))) e5.split))))));
+    }
 
 pub ruleset for_queries = (query_ends0, query_ends1, query_ends2, query_ends3, query_ends4, query_ends5, query_stands)

@@ -13,10 +13,10 @@ use Rattle.dps_scopes.specs.Terms.{is_kind, count_inner, term}
 use Rattle.dps_names.specs.Program.{Written, Definition}
 use Rattle.dps_names.specs.Processes.{Pattern, is_among, projection_symbol, with_name, unnamed, with_step, next_local, variable, tested, pattern, members, pattern_in}
 use Rattle.dps_names.specs.WellFormed.{IsTermOver, AreStepsOver, locals_behind}
-use Rattle.dps_names.proofs.Growing.{Grows, HasTuples, grows_refl, kept_arity}
+use Rattle.dps_names.proofs.SignatureGrowth.{Grows, HasTuples, grows_refl, kept_arity}
 use Rattle.dps_names.proofs.Tupling.{IsTupled, tupled}
-use Rattle.dps_names.proofs.Lasting.{term_lasts, steps_last}
-use Rattle.dps_names.proofs.Giving.{Gives, gives_done, gives_later, gives_weaker, gives_then, gives_if}
+use Rattle.dps_names.proofs.OverGrownSignatures.{term_lasts, steps_last}
+use Rattle.dps_names.proofs.OutcomesOver.{Gives, gives_done, gives_later, gives_weaker, gives_then, gives_if}
 use Rattle.dps_names.proofs.FormedTerms.{OverLocals, term_over}
 
 -- steps, and steps behind them
@@ -68,7 +68,9 @@ projected n floor i s p f a l h =
       steps = steps_append s (n + 1) p.steps (Project f i ∷ []) h.steps (a, omega (arith, h.above, l), tt);
     }
 
-one_tested : (n floor i : ℕ) (s : Signature) (p : Pattern) (w : Written) → i ≡ n + length p.names → IsTermOver s n w.tree → IsOutside n floor 1 s p → IsOutside n floor 0 s (with_step (unnamed p) (Test i w))
+one_tested :
+    (n floor i : ℕ) (s : Signature) (p : Pattern) (w : Written) → i ≡ n + length p.names → IsTermOver s n w.tree → IsOutside n floor 1 s p
+    → IsOutside n floor 0 s (with_step (unnamed p) (Test i w))
 one_tested n floor i s p w is over h =
     let e : locals_behind (n + 1) (p.steps ++ Test i w ∷ []) ≡ locals_behind (n + 1) p.steps = behind_append (n + 1) p.steps (Test i w ∷ []) in
     let one : length (p.names ++ [] ∷ []) ≡ length p.names + 1 = length-append p.names ([] ∷ []) in
@@ -87,13 +89,17 @@ members_last : (s t : Signature) (symbol many : ℕ) → Grows s t → HasMember
 members_last s t symbol many g h = record { takes = λ i l m. kept_arity s t g (record { number = symbol + i }) 1 (h.takes i l m) }
 
 module _ (definitions : List Definition) (outside : Locals) where
-  variable_over : (lexeme : Lexeme) (floor : ℕ) (p : Pattern) (s : Signature) → HasTuples s → IsOutside (local_count outside) floor 1 s p → Gives s (IsOutside (local_count outside) floor 0) (variable lexeme p s)
+  variable_over :
+      (lexeme : Lexeme) (floor : ℕ) (p : Pattern) (s : Signature) → HasTuples s → IsOutside (local_count outside) floor 1 s p
+      → Gives s (IsOutside (local_count outside) floor 0) (variable lexeme p s)
   variable_over lexeme floor p s t h =
       gives_if s (is_among lexeme.text p.names) _ _ (IsOutside (local_count outside) floor 0)
       (λ e. record { holds = tt })
       (λ e. gives_done s (IsOutside (local_count outside) floor 0) (with_name p lexeme.text) t (one_named (local_count outside) floor s p lexeme.text h))
 
-  tested_over : (parts : Parts) (floor : ℕ) (p : Pattern) (s : Signature) → HasTuples s → IsOutside (local_count outside) floor 1 s p → Gives s (IsOutside (local_count outside) floor 0) (tested definitions outside parts p s)
+  tested_over :
+      (parts : Parts) (floor : ℕ) (p : Pattern) (s : Signature) → HasTuples s → IsOutside (local_count outside) floor 1 s p
+      → Gives s (IsOutside (local_count outside) floor 0) (tested definitions outside parts p s)
   tested_over parts floor p s t h =
       gives_then s (term definitions outside parts s) _ (OverLocals (local_count outside)) (IsOutside (local_count outside) floor 0) (term_over definitions outside parts s t) (λ w u g tuples over.
       gives_done u (IsOutside (local_count outside) floor 0) (with_step (unnamed p) (Test (next_local outside p) w)) tuples
@@ -101,10 +107,16 @@ module _ (definitions : List Definition) (outside : Locals) where
 
   -- what reads the members of a tuple, whatever its symbol
   record ReadsMembers (parts : Parts) : Type 0 where
-    pub reads : (floor symbol from : ℕ) (p : Pattern) (s : Signature) → HasTuples s → HasMembers s symbol (count_inner parts) → from < floor → IsOutside (local_count outside) floor 0 s p → Gives s (IsOutside (local_count outside) floor 0) (members definitions outside parts symbol from 1 p s)
+    pub reads :
+        (floor symbol from : ℕ) (p : Pattern) (s : Signature) → HasTuples s → HasMembers s symbol (count_inner parts) → from < floor
+        → IsOutside (local_count outside) floor 0 s p
+        → Gives s (IsOutside (local_count outside) floor 0) (members definitions outside parts symbol from 1 p s)
 
   -- a tuple, whose members are read with its symbols
-  tuple_over : (parts : Parts) (floor : ℕ) (p : Pattern) (s u : Signature) (symbol : ℕ) → ReadsMembers parts → IsTupled s (count_inner parts) symbol u → IsOutside (local_count outside) floor 1 s p → Gives s (IsOutside (local_count outside) floor 0) (members definitions outside parts symbol (next_local outside p) 1 (unnamed p) u)
+  tuple_over :
+      (parts : Parts) (floor : ℕ) (p : Pattern) (s u : Signature) (symbol : ℕ) → ReadsMembers parts → IsTupled s (count_inner parts) symbol u
+      → IsOutside (local_count outside) floor 1 s p
+      → Gives s (IsOutside (local_count outside) floor 0) (members definitions outside parts symbol (next_local outside p) 1 (unnamed p) u)
   tuple_over parts floor p s u symbol read there h =
       let n = local_count outside in
       let high = locals_behind (n + 1) p.steps in
@@ -115,7 +127,9 @@ module _ (definitions : List Definition) (outside : Locals) where
       (read.reads high symbol (next_local outside p) (unnamed p) u there.tuples (record { takes = there.takes }) below h2))
 
   mutual
-    pub pattern_over : (parts : Parts) (floor : ℕ) (p : Pattern) (s : Signature) → HasTuples s → IsOutside (local_count outside) floor 1 s p → Gives s (IsOutside (local_count outside) floor 0) (pattern definitions outside parts p s)
+    pub pattern_over :
+        (parts : Parts) (floor : ℕ) (p : Pattern) (s : Signature) → HasTuples s → IsOutside (local_count outside) floor 1 s p
+        → Gives s (IsOutside (local_count outside) floor 0) (pattern definitions outside parts p s)
     pattern_over none floor p s t h = gives_done s (IsOutside (local_count outside) floor 0) p t (no_room (local_count outside) floor s p h)
     pattern_over (inner q inside parts) floor p s t h = gives_done s (IsOutside (local_count outside) floor 0) p t (no_room (local_count outside) floor s p h)
     pattern_over (token lexeme parts) floor p s t h =
@@ -124,17 +138,25 @@ module _ (definitions : List Definition) (outside : Locals) where
         (λ e. gives_if s (is_kind kinds.Equals lexeme) _ _ (IsOutside (local_count outside) floor 0)
         (λ f. tested_over parts floor p s t h)
         (λ f. gives_if s (nat_le 2 (count_inner parts) && nat_le (count_inner parts) most_arguments) _ _ (IsOutside (local_count outside) floor 0)
-        (λ k. tuple_over parts floor p s (with_tuple s (count_inner parts)).signature (with_tuple s (count_inner parts)).symbol (record { reads = λ high symbol from q u a b c d. members_over parts high symbol from 1 (count_inner parts) q u a b (omega arith) (omega arith) c d }) (tupled s (count_inner parts) t) h)
+        (λ k. tuple_over parts floor p s (with_tuple s (count_inner parts)).signature (with_tuple s (count_inner parts)).symbol
+        (record { reads = λ high symbol from q u a b c d. members_over parts high symbol from 1 (count_inner parts) q u a b (omega arith) (omega arith) c d }) (tupled s (count_inner parts) t) h)
         (λ k. record { holds = tt })))
 
-    members_over : (parts : Parts) (floor symbol from i many : ℕ) (p : Pattern) (s : Signature) → HasTuples s → HasMembers s symbol many → 1 ≤ i → i + count_inner parts ≤ many + 1 → from < floor → IsOutside (local_count outside) floor 0 s p → Gives s (IsOutside (local_count outside) floor 0) (members definitions outside parts symbol from i p s)
+    members_over :
+        (parts : Parts) (floor symbol from i many : ℕ) (p : Pattern) (s : Signature) → HasTuples s → HasMembers s symbol many → 1 ≤ i
+        → i + count_inner parts ≤ many + 1 → from < floor → IsOutside (local_count outside) floor 0 s p
+        → Gives s (IsOutside (local_count outside) floor 0) (members definitions outside parts symbol from i p s)
     members_over none floor symbol from i many p s t k low few below h = gives_done s (IsOutside (local_count outside) floor 0) p t h
     members_over (token lexeme parts) floor symbol from i many p s t k low few below h = members_over parts floor symbol from i many p s t k low few below h
     members_over (inner q inside parts) floor symbol from i many p s t k low few below h =
-        gives_then s (pattern definitions outside inside (with_step p (Project (projection_symbol symbol i) from)) s) _ (IsOutside (local_count outside) floor 0) (IsOutside (local_count outside) floor 0)
-        (pattern_over inside floor (with_step p (Project (projection_symbol symbol i) from)) s t (projected (local_count outside) floor from s p (projection_symbol symbol i) (k.takes i low (omega (arith, few))) below h))
+        gives_then s (pattern definitions outside inside (with_step p (Project (projection_symbol symbol i) from)) s) _ (IsOutside (local_count outside) floor 0)
+        (IsOutside (local_count outside) floor 0)
+        (pattern_over inside floor (with_step p (Project (projection_symbol symbol i) from)) s t
+        (projected (local_count outside) floor from s p (projection_symbol symbol i) (k.takes i low (omega (arith, few))) below h))
         (λ next u g tuples h2.
         members_over parts floor symbol from (i + 1) many next u tuples (members_last s u symbol many g k) (omega arith) (omega (arith, few)) below h2)
 
-pub pattern_in_over : (definitions : List Definition) (scope : Locals) (parts : Parts) (s : Signature) → HasTuples s → Gives s (IsOutside (local_count scope) 0 0) (pattern_in definitions scope parts s)
+pub pattern_in_over :
+    (definitions : List Definition) (scope : Locals) (parts : Parts) (s : Signature) → HasTuples s
+    → Gives s (IsOutside (local_count scope) 0 0) (pattern_in definitions scope parts s)
 pattern_in_over definitions scope parts s t = pattern_over definitions scope parts 0 (record { steps = []; names = [] }) s t (starts (local_count scope) s)

@@ -16,11 +16,13 @@ use Rattle.dps_names.specs.declared.program.Side.{Side}
 use Rattle.dps_names.specs.Program.{Program, Definition, WrittenRule, Body, empty, parallel}
 use Rattle.dps_names.specs.Rules.{rule}
 use Rattle.dps_names.specs.Processes.{number_of, is_among, joined, parallels}
-use Rattle.dps_names.specs.Declarations.{with_signature, with_rules, with_definition, with_sides, declaring, declare_names, is_marked_private, names, with_constructor, functions, in_signature, rule_in, rules, parameters, body_of, define_with, define, first_lexeme, first_place, side, query, declaration, declarations, names_of}
+use Rattle.dps_names.specs.Declarations.{with_signature, with_rules, with_definition, with_sides, declaring, declare_names, is_marked_private, names, with_constructor}
+use Rattle.dps_names.specs.Declarations.{functions, in_signature, rule_in, rules, parameters, body_of, define_with, define, first_lexeme, first_place, side, query}
+use Rattle.dps_names.specs.Declarations.{declaration, declarations, names_of}
 use Rattle.dps_names.specs.WellFormed.{IsBodyOver, IsWellFormed}
-use Rattle.dps_names.proofs.Growing.{Grows, HasTuples, grows_refl, grows_trans, grows_name, tuples_name, grows_symbol, tuples_symbol, tuples_none}
-use Rattle.dps_names.proofs.Lasting.{body_lasts}
-use Rattle.dps_names.proofs.Giving.{Gives}
+use Rattle.dps_names.proofs.SignatureGrowth.{Grows, HasTuples, grows_refl, grows_trans, grows_name, tuples_name, grows_symbol, tuples_symbol, tuples_none}
+use Rattle.dps_names.proofs.OverGrownSignatures.{body_lasts}
+use Rattle.dps_names.proofs.OutcomesOver.{Gives}
 use Rattle.dps_names.proofs.RuleSides.{rule_keeps}
 use Rattle.dps_names.proofs.FormedProcesses.{IsFront, whole_front, EachIsOver, parallels_join, parallels_over}
 
@@ -76,7 +78,9 @@ leads_later : {A : Type 0} (p q : Program) (P : Program → A → Type 0) (o : O
 leads_later p q P (done a after) e h = record { met = record { formed = h.met.formed; extends = extends_trans p q after e h.met.extends; value = h.met.value } }
 leads_later p q P (faulty f) e h = record { met = tt }
 
-leads_then : {A B : Type 0} (p : Program) (o : Outcome Program A) (next : A → Program → Outcome Program B) (P : Program → A → Type 0) (Q : Program → B → Type 0) → Leads p P o → ((a : A) (q : Program) → IsFormed q → Extends p q → P q a → Leads q Q (next a q)) → Leads p Q (and_then o next)
+leads_then :
+    {A B : Type 0} (p : Program) (o : Outcome Program A) (next : A → Program → Outcome Program B) (P : Program → A → Type 0) (Q : Program → B → Type 0)
+    → Leads p P o → ((a : A) (q : Program) → IsFormed q → Extends p q → P q a → Leads q Q (next a q)) → Leads p Q (and_then o next)
 leads_then p (done a q) next P Q h k = leads_later p q Q (next a q) h.met.extends (k a q h.met.formed h.met.extends h.met.value)
 leads_then p (faulty f) next P Q h k = record { met = tt }
 
@@ -132,7 +136,11 @@ defined p d h o = record {
   where
     by : (k : ℕ) (x : Definition) → IsOneOf p.definitions d k x → IsBodyOver p.signature (take k (p.definitions ++ d ∷ [])) x.parameters x.body
     by k x (early f g) = subst (λ ds. IsBodyOver p.signature ds x.parameters x.body) (sym g) (h.definitions k x f)
-    by k x (last f g) = subst (λ ds. IsBodyOver p.signature ds x.parameters x.body) (sym g) (subst (λ (y : Definition). IsBodyOver p.signature p.definitions y.parameters y.body) (sym f) (o.over p.definitions (whole_front p.definitions)))
+    by k x (last f g) =
+        subst
+        (λ ds. IsBodyOver p.signature ds x.parameters x.body)
+        (sym g)
+        (subst (λ (y : Definition). IsBodyOver p.signature p.definitions y.parameters y.body) (sym f) (o.over p.definitions (whole_front p.definitions)))
 
 defined_extends : (p : Program) (d : Definition) → Extends p (with_definition p d)
 defined_extends p d = record { grows = grows_refl p.signature; front = one_front p.definitions d }
@@ -168,7 +176,8 @@ constructor_leads name arity p e h =
     let symbol : Symbol = record { name = name.text; kind = Constructor; arity = number_of arity } in
     let g = grows_symbol p.signature symbol in
     leads_if p (nat_le (number_of arity) most_arguments) _ _ Anything
-    (λ f. leads_done p (with_signature p (with_symbol p.signature symbol)) Anything tt (signed p (with_symbol p.signature symbol) h g (tuples_symbol p.signature symbol e h.tuples)) (signed_extends p (with_symbol p.signature symbol) g) tt)
+    (λ f. leads_done p (with_signature p (with_symbol p.signature symbol)) Anything tt (signed p (with_symbol p.signature symbol) h g (tuples_symbol p.signature symbol e h.tuples))
+    (signed_extends p (with_symbol p.signature symbol) g) tt)
     (λ f. record { met = tt })
 
 functions_lead : (parts : Parts) (p : Program) → IsFormed p → Leads p Anything (functions parts p)
@@ -191,7 +200,8 @@ ruled_extends p rs = record { grows = grows_refl p.signature; front = whole_fron
 
 rule_in_leads : (p : Program) (parts : Parts) → IsFormed p → Leads p Anything (rule_in p parts)
 rule_in_leads p parts h =
-    leads_then p (in_signature p (rule p.definitions parts p.signature)) _ (λ q a. ⊤) Anything (in_signature_leads p (λ s a. ⊤) (rule p.definitions parts p.signature) h (rule_keeps p.definitions parts p.signature h.tuples)) (λ rs q k x e.
+    leads_then p (in_signature p (rule p.definitions parts p.signature)) _ (λ q a. ⊤) Anything
+    (in_signature_leads p (λ s a. ⊤) (rule p.definitions parts p.signature) h (rule_keeps p.definitions parts p.signature h.tuples)) (λ rs q k x e.
     leads_done q (with_rules q rs) Anything tt (ruled q rs k) (ruled_extends q rs) tt)
 
 rules_lead : (parts : Parts) (p : Program) → IsFormed p → Leads p Anything (rules parts p)
@@ -215,7 +225,9 @@ parameters_lead (token lexeme parts) texts p h =
 pub record AreOverAll (definitions : List Definition) (n : ℕ) (s : Signature) (ps : List Body) : Type 0 where
   pub over : (all : List Definition) → IsFront definitions all → EachIsOver all n s ps
 
-all_over : (definitions : List Definition) (n : ℕ) (s : Signature) (o : Outcome Signature (List Body)) → ((all : List Definition) → IsFront definitions all → Gives s (EachIsOver all n) o) → Gives s (AreOverAll definitions n) o
+all_over :
+    (definitions : List Definition) (n : ℕ) (s : Signature) (o : Outcome Signature (List Body))
+    → ((all : List Definition) → IsFront definitions all → Gives s (EachIsOver all n) o) → Gives s (AreOverAll definitions n) o
 all_over definitions n s (done ps t) h =
     let whole = h definitions (whole_front definitions) in
     record { holds = record { grows = whole.holds.grows; tuples = whole.holds.tuples; value = record { over = λ all front. (h all front).holds.value } } }

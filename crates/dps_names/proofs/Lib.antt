@@ -1,5 +1,5 @@
 pub mod Numbers
-pub mod Growing
+pub mod SignatureGrowth
 pub mod Members
 pub mod Chains
 pub mod Shaping
@@ -7,9 +7,9 @@ pub mod Processing
 pub mod Declaring
 pub mod DeclaringShapes
 pub mod Tupling
-pub mod Standing
-pub mod Lasting
-pub mod Giving
+pub mod MeaningsThere
+pub mod OverGrownSignatures
+pub mod OutcomesOver
 pub mod FormedTerms
 pub mod FormedPatterns
 pub mod FormedProcesses

@@ -16,7 +16,9 @@ pub record IsReading (all rest : List ℕ) (value : ℕ) : Type 0 where
 pub reading_first : (all : List ℕ) → IsReading all all 0
 reading_first all = record { so_far = refl; small = omega arith }
 
-pub reading_more : (all : List ℕ) (i value next m d : ℕ) → IsReading all (drop i all) value → i < length all → m ≡ min (value * 10) (2 ^ 32 - 1) → d ≡ get_or all i 0 - 48 → next ≡ min (m + d) (2 ^ 32 - 1) → IsReading all (drop (i + 1) all) next
+pub reading_more :
+    (all : List ℕ) (i value next m d : ℕ) → IsReading all (drop i all) value → i < length all → m ≡ min (value * 10) (2 ^ 32 - 1)
+    → d ≡ get_or all i 0 - 48 → next ≡ min (m + d) (2 ^ 32 - 1) → IsReading all (drop (i + 1) all) next
 reading_more all i value next m d r h f g n =
     let left : drop i all ≡ get_or all i 0 ∷ drop (i + 1) all = drop_next all i 0 (get_or all i 0) h refl in
     record {

@@ -10,7 +10,9 @@ Holds (faulty fault) P = Unit {0}
 pub record OnDone {S A : Type 0} (o : Outcome S A) (P : A → S → Type 0) : Type 0 where
   pub holds : Holds o P
 
-pub on_then : {S A B : Type 0} (o : Outcome S A) (next : A → S → Outcome S B) (P : A → S → Type 0) (Q : B → S → Type 0) → OnDone o P → ((a : A) (s : S) → P a s → OnDone (next a s) Q) → OnDone (and_then o next) Q
+pub on_then :
+    {S A B : Type 0} (o : Outcome S A) (next : A → S → Outcome S B) (P : A → S → Type 0) (Q : B → S → Type 0) → OnDone o P
+    → ((a : A) (s : S) → P a s → OnDone (next a s) Q) → OnDone (and_then o next) Q
 on_then (done a s) next P Q h k = k a s h.holds
 on_then (faulty fault) next P Q h k = record { holds = tt }
 

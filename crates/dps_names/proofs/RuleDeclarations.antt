@@ -16,12 +16,13 @@ use Rattle.dps_scopes.specs.Terms.{is_kind}
 use Rattle.dps_names.specs.Program.{Program, WrittenRule, empty, parallel}
 use Rattle.dps_names.specs.Rules.{rule}
 use Rattle.dps_names.specs.Processes.{number_of, is_among, joined, parallels}
-use Rattle.dps_names.specs.Declarations.{with_signature, declaring, declare_names, is_marked_private, names, with_constructor, functions, in_signature, rule_in, rules, parameters, body_of, define_with, define, first_lexeme, first_place, side, query, declaration, declarations, names_of}
-use Rattle.dps_names.proofs.Growing.{Grows, HasTuples, grows_refl, grows_trans, grows_name, tuples_name, grows_symbol, tuples_symbol, tuples_none}
+use Rattle.dps_names.specs.Declarations.{with_signature, declaring, declare_names, is_marked_private, names, with_constructor, functions, in_signature, rule_in, rules}
+use Rattle.dps_names.specs.Declarations.{parameters, body_of, define_with, define, first_lexeme, first_place, side, query, declaration, declarations, names_of}
+use Rattle.dps_names.proofs.SignatureGrowth.{Grows, HasTuples, grows_refl, grows_trans, grows_name, tuples_name, grows_symbol, tuples_symbol, tuples_none}
 use Rattle.dps_names.proofs.Outcomes.{OnDone, on_then, on_if, on_weaker}
 use Rattle.dps_names.proofs.RuleSides.{IsRuleOfFile, ReadsRules, rule_stays, rule_read}
 use Rattle.dps_names.proofs.FormedProcesses.{parallels_over, whole_front}
-use Rattle.dps_names.proofs.Giving.{Gives}
+use Rattle.dps_names.proofs.OutcomesOver.{Gives}
 
 -- what declares no rule: the signature grew, and the rules are those that were there
 pub record KeepsRules {A : Type 0} (start : Program) (a : A) (after : Program) : Type 0 where
@@ -36,7 +37,9 @@ keep_later : {A : Type 0} (p q : Program) (o : Outcome Program A) → Grows p.si
 keep_later p q o g e h =
     on_weaker o (KeepsRules q) (KeepsRules p) (λ a s r. record { grows = grows_trans p.signature q.signature s.signature g r.grows; tuples = r.tuples; rules = r.rules ∙ e }) h
 
-keep_then : {A B : Type 0} (p : Program) (o : Outcome Program A) (next : A → Program → Outcome Program B) → OnDone o (KeepsRules p) → ((a : A) (q : Program) → HasTuples q.signature → OnDone (next a q) (KeepsRules q)) → OnDone (and_then o next) (KeepsRules p)
+keep_then :
+    {A B : Type 0} (p : Program) (o : Outcome Program A) (next : A → Program → Outcome Program B) → OnDone o (KeepsRules p)
+    → ((a : A) (q : Program) → HasTuples q.signature → OnDone (next a q) (KeepsRules q)) → OnDone (and_then o next) (KeepsRules p)
 keep_then p o next h k = on_then o next (KeepsRules p) (KeepsRules p) h (λ a q r. keep_later p q (next a q) r.grows r.rules (k a q r.tuples))
 
 -- the text is not reserved, too
@@ -51,8 +54,18 @@ declaring_keeps lexeme p h =
     (λ f. record { holds = record { keeps = record { grows = grows_refl p.signature; tuples = h; rules = refl }; free = e } })
     (λ f. record { holds = tt }))
 
-declaring_then : {B : Type 0} (lexeme : Lexeme) (p : Program) (next : Unit {0} → Program → Outcome Program B) → HasTuples p.signature → ((u : Unit {0}) (q : Program) → HasTuples q.signature → is_reserved lexeme.text ≡ false → OnDone (next u q) (KeepsRules q)) → OnDone (and_then (declaring lexeme p) next) (KeepsRules p)
-declaring_then lexeme p next h k = on_then (declaring lexeme p) next (Declares lexeme.text p) (KeepsRules p) (declaring_keeps lexeme p h) (λ u q r. keep_later p q (next u q) r.keeps.grows r.keeps.rules (k u q r.keeps.tuples r.free))
+declaring_then :
+    {B : Type 0} (lexeme : Lexeme) (p : Program) (next : Unit {0} → Program → Outcome Program B) → HasTuples p.signature
+    → ((u : Unit {0}) (q : Program) → HasTuples q.signature → is_reserved lexeme.text ≡ false → OnDone (next u q) (KeepsRules q))
+    → OnDone (and_then (declaring lexeme p) next) (KeepsRules p)
+declaring_then lexeme p next h k =
+    on_then
+    (declaring lexeme p)
+    next
+    (Declares lexeme.text p)
+    (KeepsRules p)
+    (declaring_keeps lexeme p h)
+    (λ u q r. keep_later p q (next u q) r.keeps.grows r.keeps.rules (k u q r.keeps.tuples r.free))
 
 declare_names_keep : (is_private : Bool) (parts : Parts) (p : Program) → HasTuples p.signature → OnDone (declare_names is_private parts p) (KeepsRules p)
 declare_names_keep is_private no_parts p h = keep_here p tt h
@@ -198,7 +211,8 @@ module _ (m : ℕ) where
       let all = length-append (lexemes inside) (lexemes parts) in
       on_then (rule_in p inside) _ (AddsRules (length (lexemes inside)) m p) (AddsRules (length (lexemes (inner q inside parts))) m p)
       (rule_in_adds p inside h (omega arith))
-      (λ u after r. adds_later (length (lexemes inside)) (length (lexemes parts)) (length (lexemes (inner q inside parts))) m p after (rules parts after) r.few (omega arith) (rules_add parts after r.held (omega arith)))
+      (λ u after r. adds_later (length (lexemes inside)) (length (lexemes parts)) (length (lexemes (inner q inside parts))) m p after (rules parts after) r.few (omega arith)
+      (rules_add parts after r.held (omega arith)))
 
   declaration_adds : (decl : Decl) (p : Program) → HasRulesOfFile m p → length (lexemes (tree_of decl).parts) < m → OnDone (declaration decl p) (AddsRules (length (lexemes (tree_of decl).parts)) m p)
   declaration_adds (Free tree) p h few = none_added (length (lexemes tree.parts)) m p (names tree.parts p) h (names_keep tree.parts p h.tuples)
@@ -219,7 +233,9 @@ module _ (m : ℕ) where
       (λ u after r. adds_later first rest (length (lexemes (trees_of (decl ∷ decls)))) m p after (declarations decls after) r.few (omega arith) (declarations_add decls after r.held (omega arith)))
 
 -- the rules of declarations, of which there are at most as many as tokens
-pub rules_of_file : (m : ℕ) (decls : List Decl) (program : Program) → length (lexemes (trees_of decls)) < m → names_of decls ≡ done tt program → AddsRules (length (lexemes (trees_of decls))) m empty tt program
+pub rules_of_file :
+    (m : ℕ) (decls : List Decl) (program : Program) → length (lexemes (trees_of decls)) < m → names_of decls ≡ done tt program
+    → AddsRules (length (lexemes (trees_of decls))) m empty tt program
 rules_of_file m decls program few e =
     let start : HasRulesOfFile m empty = record { tuples = tuples_none empty.signature refl; rules = All-nil (λ (w : WrittenRule). IsRuleOfFile m empty.signature w.rule) } in
     let h : OnDone (names_of decls) (AddsRules (length (lexemes (trees_of decls))) m empty) = declarations_add m decls empty start few in

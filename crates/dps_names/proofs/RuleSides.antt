@@ -21,8 +21,8 @@ use Rattle.dps_scopes.specs.Terms.{count_inner}
 use Rattle.dps_scopes.specs.RuleTerms.{InRule, declared_root, rule_terms, root_as}
 use Rattle.dps_names.specs.Program.{Definition, WrittenRule}
 use Rattle.dps_names.specs.Rules.{sides_of, rule}
-use Rattle.dps_names.proofs.Growing.{Grows, HasTuples, grows_refl, grows_trans, grows_symbol, tuples_symbol, kept_symbol, kept_arity, shape_at}
-use Rattle.dps_names.proofs.Giving.{Gives}
+use Rattle.dps_names.proofs.SignatureGrowth.{Grows, HasTuples, grows_refl, grows_trans, grows_symbol, tuples_symbol, kept_symbol, kept_arity, shape_at}
+use Rattle.dps_names.proofs.OutcomesOver.{Gives}
 use Rattle.dps_names.proofs.Outcomes.{OnDone, on_then, on_if}
 use Rattle.dps_names.proofs.RuleTerms.{IsLeafOfRule, IsRuleTerm, AreRuleTerms, IsFreeSymbol, MeansThere, ReadsInRule, term_stays, declared_there, rule_terms_read}
 
@@ -130,7 +130,10 @@ module _ (definitions : List Definition) where
   root_read lexeme many s (a_projection projection) h there = declared_read lexeme many s h
   root_read lexeme many s unknown h there = declared_read lexeme many s h
 
-  sides_read : (m k many total : ℕ) (lexeme : Lexeme) (f : Sym) (start : Signature) (state : InRule) (o : Outcome InRule (List Tree)) → 0 < m → many ≤ total → IsRoot many start f state.signature → OnDone o (ReadsInRule k (AreRuleTerms m total) state) → OnDone (sides_of definitions lexeme f many o) (AreSides m start)
+  sides_read :
+      (m k many total : ℕ) (lexeme : Lexeme) (f : Sym) (start : Signature) (state : InRule) (o : Outcome InRule (List Tree)) → 0 < m → many ≤ total
+      → IsRoot many start f state.signature → OnDone o (ReadsInRule k (AreRuleTerms m total) state)
+      → OnDone (sides_of definitions lexeme f many o) (AreSides m start)
   sides_read m k many total lexeme f start state (faulty fault) some fit root h = record { holds = tt }
   sides_read m k many total lexeme f start state (done ts last) some fit root h =
       let r = h.holds in
@@ -141,8 +144,11 @@ module _ (definitions : List Definition) where
           grows = grows_trans start state.signature last.signature root.grows r.grows;
           tuples = r.tuples;
           rule = record {
-            left =
-                (subst (λ n. HasArity (shapes last.signature) f n) (sym counted) (kept_arity state.signature last.signature r.grows f many root.arity), taken_built (IsLeafOfRule last.signature m) (HasArity (shapes last.signature)) many ts r.value.built);
+            left = (
+              subst (λ n. HasArity (shapes last.signature) f n) (sym counted) (kept_arity state.signature last.signature r.grows f many root.arity),
+              taken_built
+                  (IsLeafOfRule last.signature m) (HasArity (shapes last.signature)) many ts r.value.built,
+            );
             right = one_built (IsLeafOfRule last.signature m) (HasArity (shapes last.signature)) many ts (leaf (var 0)) r.value.built some;
             root = symbol_stays state.signature last.signature r.grows f root.free;
           };
@@ -159,7 +165,8 @@ module _ (definitions : List Definition) where
       (λ f after root.
       let state : InRule = record { signature = after; variables = [] } in
       on_then (sides_of definitions lexeme f many (rule_terms definitions parts state)) _ (AreSides m s) (ReadsRules (length (lexemes (token lexeme parts))) m s)
-      (sides_read m (length (lexemes parts)) many (count_inner parts) lexeme f s state (rule_terms definitions parts state) (omega arith) (omega arith) root (rule_terms_read m definitions parts state root.tuples (omega arith)))
+      (sides_read m (length (lexemes parts)) many (count_inner parts) lexeme f s state (rule_terms definitions parts state) (omega arith) (omega arith) root
+      (rule_terms_read m definitions parts state root.tuples (omega arith)))
       (λ w last q. record {
         holds = record {
           grows = q.grows;

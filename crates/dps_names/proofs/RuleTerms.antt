@@ -1,5 +1,6 @@
 -- The terms of rules are over the signature behind them, and hold declared public names and few variables.
-use Rattle.std.proofs.Common.{◌≡◌, ◌≤◌, ◌<◌, ℕ, zero, suc, ◌+◌, Bool, true, false, ◌&&◌, if◌then◌else◌, List, [], ◌∷◌, ◌++◌, Option, Some, None, refl, sym, ap, ◌∙◌, subst, length, arith, length-append, unwrap_or, is_some, bytes_eq, position}
+use Rattle.std.proofs.Common.{◌≡◌, ◌≤◌, ◌<◌, ℕ, zero, suc, ◌+◌, Bool, true, false, ◌&&◌, if◌then◌else◌, List, [], ◌∷◌, ◌++◌, Option, Some, None, refl, sym, ap, ◌∙◌}
+use Rattle.std.proofs.Common.{subst, length, arith, length-append, unwrap_or, is_some, bytes_eq, position}
 use Rattle.std.specs.Prelude.{slice_get, nat_le, ◌==◌}
 use Rattle.std.proofs.lemmas.Bool.{eqb-true}
 use Rattle.std.proofs.lemmas.List.Quantifiers.{position-Some}
@@ -18,9 +19,11 @@ use Rattle.dps_scopes.specs.declared.meaning.Meaning.TheVariants.{Local as a_loc
 use Rattle.dps_scopes.specs.Outcome.{Outcome, done, and_then}
 use Rattle.dps_scopes.specs.Scopes.{most_arguments, begins_as_projection, with_tuple, declared_meaning, function_or_named, named, defined}
 use Rattle.dps_scopes.specs.Terms.{is_kind, count_inner}
-use Rattle.dps_scopes.specs.RuleTerms.{InRule, variable, variable_or_unknown, public_name, function_in_rule, identifier_in_rule, first_tree, with_signature, tuple_in_rule, has_more, rule_term, rule_terms}
+use Rattle.dps_scopes.specs.RuleTerms.{InRule, variable, variable_or_unknown, public_name, function_in_rule, identifier_in_rule, first_tree, with_signature}
+use Rattle.dps_scopes.specs.RuleTerms.{tuple_in_rule, has_more, rule_term, rule_terms}
 use Rattle.dps_names.specs.Program.{Definition}
-use Rattle.dps_names.proofs.Growing.{Grows, HasTuples, grows_refl, grows_trans, grows_tuple, tuples_tuple, tuple_arity, kept_arity, kept_there, built_wider, symbol_found, function_arity, name_there}
+use Rattle.dps_names.proofs.SignatureGrowth.{Grows, HasTuples, grows_refl, grows_trans, grows_tuple, tuples_tuple, tuple_arity, kept_arity, kept_there, built_wider}
+use Rattle.dps_names.proofs.SignatureGrowth.{symbol_found, function_arity, name_there}
 use Rattle.dps_names.proofs.Outcomes.{OnDone, on_then, on_if, on_weaker}
 
 -- a declared public name, or one of the first m variables
@@ -100,14 +103,17 @@ named_there : (s : Signature) (definitions : List Definition) (text : List ℕ) 
 named_there s definitions text (Some n) e = name_there s text n e
 named_there s definitions text None e = defined_there s definitions (position (λ d. bytes_eq text d.name) definitions)
 
-function_there : (s : Signature) (definitions : List Definition) (text : List ℕ) (o : Option ℕ) → symbol_named s text ≡ o → begins_as_projection text ≡ false → MeansThere s (function_or_named s definitions text o)
+function_there :
+    (s : Signature) (definitions : List Definition) (text : List ℕ) (o : Option ℕ) → symbol_named s text ≡ o → begins_as_projection text ≡ false
+    → MeansThere s (function_or_named s definitions text o)
 function_there s definitions text (Some f) e free =
     let h = symbol_found s text f e in
     (function_arity s text f e, record { symbol = h.0; at = h.1; free = ap begins_as_projection (sym h.2) ∙ free })
 function_there s definitions text None e free = named_there s definitions text (name_named s text) refl
 
 pub declared_there : (s : Signature) (definitions : List Definition) (text : List ℕ) → MeansThere s (declared_meaning s definitions text)
-declared_there s definitions text = go (begins_as_projection text) (function_or_named s definitions text (symbol_named s text)) (λ free. function_there s definitions text (symbol_named s text) refl free)
+declared_there s definitions text =
+    go (begins_as_projection text) (function_or_named s definitions text (symbol_named s text)) (λ free. function_there s definitions text (symbol_named s text) refl free)
   where
     go : (b : Bool) (m : Meaning) → (b ≡ false → MeansThere s m) → MeansThere s (if b then unknown else m)
     go true m h = tt
@@ -124,7 +130,9 @@ read_here : {A : Type 0} (many : ℕ) (P : Signature → A → Type 0) (start : 
 read_here many P start a h v = record { holds = record { grows = grows_refl start.signature; tuples = h; few = omega arith; value = v } }
 
 -- what is read behind something else
-read_later : {A : Type 0} (j k many : ℕ) (P : Signature → A → Type 0) (start next : InRule) (o : Outcome InRule A) → Grows start.signature next.signature → length next.variables ≤ length start.variables + j → j + k ≤ many → OnDone o (ReadsInRule k P next) → OnDone o (ReadsInRule many P start)
+read_later :
+    {A : Type 0} (j k many : ℕ) (P : Signature → A → Type 0) (start next : InRule) (o : Outcome InRule A) → Grows start.signature next.signature
+    → length next.variables ≤ length start.variables + j → j + k ≤ many → OnDone o (ReadsInRule k P next) → OnDone o (ReadsInRule many P start)
 read_later j k many P start next o g few fit h =
     on_weaker o (ReadsInRule k P next) (ReadsInRule many P start) (λ a s r. let later = r.few in record {
       grows = grows_trans start.signature next.signature s.signature g r.grows;
@@ -161,7 +169,8 @@ module _ (m : ℕ) where
   applied_term : (s : Signature) (f : Sym) (many : ℕ) (ts : List Tree) → HasArity (shapes s) f many → AreRuleTerms m many s ts → IsRuleTerm m s (app f (trees ts))
   applied_term s f many ts a h = (subst (λ n. HasArity (shapes s) f n) (sym (count-trees ts ∙ h.counted)) a, h.built)
 
-  module _ (lexeme : Lexeme) (k many number : ℕ) (arguments : InRule → Outcome InRule (List Tree)) (state : InRule) (reads : ReadsArguments k number arguments) (h : HasTuples state.signature) (fit : 1 + k ≤ many) (few : length state.variables + many < m) where
+  module _ (lexeme : Lexeme) (k many number : ℕ) (arguments : InRule → Outcome InRule (List Tree)) (state : InRule) (reads : ReadsArguments k number arguments) (h : HasTuples state.signature)
+      (fit : 1 + k ≤ many) (few : length state.variables + many < m) where
     bare_read : (b : Bool) → OnDone (variable_or_unknown lexeme b state) (ReadsInRule many (IsRuleTerm m) state)
     bare_read true = record { holds = tt }
     bare_read false = variable_read many state lexeme.text (omega arith) h (omega arith)
@@ -171,7 +180,9 @@ module _ (m : ℕ) where
     name_read n zero true there = record { holds = tt }
     name_read n zero false there = read_here many (IsRuleTerm m) state (leaf (public (Declared n))) h there
 
-    function_read : (f : Sym) (arity : ℕ) (b : Bool) → (number == arity && b) ≡ true → HasArity (shapes state.signature) f arity → OnDone (and_then (arguments state) (λ ts after. done (app f (trees ts)) after)) (ReadsInRule many (IsRuleTerm m) state)
+    function_read :
+        (f : Sym) (arity : ℕ) (b : Bool) → (number == arity && b) ≡ true → HasArity (shapes state.signature) f arity
+        → OnDone (and_then (arguments state) (λ ts after. done (app f (trees ts)) after)) (ReadsInRule many (IsRuleTerm m) state)
     function_read f arity b e there =
         let same : number ≡ arity = eqb-true number arity (first (number == arity) b e) in
         on_then (arguments state) _ (ReadsInRule k (AreRuleTerms m number) state) (ReadsInRule many (IsRuleTerm m) state)
@@ -183,7 +194,8 @@ module _ (m : ℕ) where
             grows = r.grows;
             tuples = r.tuples;
             few = omega arith;
-            value = applied_term after.signature f number ts (kept_arity state.signature after.signature r.grows f number (subst (λ n. HasArity (shapes state.signature) f n) (sym same) there)) r.value;
+            value =
+                applied_term after.signature f number ts (kept_arity state.signature after.signature r.grows f number (subst (λ n. HasArity (shapes state.signature) f n) (sym same) there)) r.value;
           };
         })
       where
@@ -191,11 +203,15 @@ module _ (m : ℕ) where
         first true c d = refl
         first false c d = cc
 
-    called_read : (f : Sym) (arity : ℕ) (b : Bool) → (number == arity && nat_le arity most_arguments) ≡ b → HasArity (shapes state.signature) f arity → OnDone (function_in_rule lexeme b (arguments state) f) (ReadsInRule many (IsRuleTerm m) state)
+    called_read :
+        (f : Sym) (arity : ℕ) (b : Bool) → (number == arity && nat_le arity most_arguments) ≡ b → HasArity (shapes state.signature) f arity
+        → OnDone (function_in_rule lexeme b (arguments state) f) (ReadsInRule many (IsRuleTerm m) state)
     called_read f arity true e there = function_read f arity (nat_le arity most_arguments) e there
     called_read f arity false e there = record { holds = tt }
 
-    identifier_read : (has_brackets : Bool) (meaning : Meaning) → MeansThere state.signature meaning → OnDone (identifier_in_rule lexeme has_brackets number arguments state meaning) (ReadsInRule many (IsRuleTerm m) state)
+    identifier_read :
+        (has_brackets : Bool) (meaning : Meaning) → MeansThere state.signature meaning
+        → OnDone (identifier_in_rule lexeme has_brackets number arguments state meaning) (ReadsInRule many (IsRuleTerm m) state)
     identifier_read b (a_name n is_private) there = name_read n number is_private there
     identifier_read b (a_function f arity) there = called_read f arity (number == arity && nat_le arity most_arguments) refl there.0
     identifier_read b (a_process n parameters) there = record { holds = tt }
@@ -215,7 +231,8 @@ module _ (m : ℕ) where
         (λ ts after r. let later = r.few in record { holds = record { grows = r.grows; tuples = r.tuples; few = omega arith; value = first_read after.signature ts r.value } }))
         (λ e. on_if (nat_le number most_arguments) _ _ (ReadsInRule many (IsRuleTerm m) state) (λ d. built) (λ d. record { holds = tt }))
       where
-        built : OnDone (and_then (arguments (with_signature state (with_tuple state.signature number).signature)) (λ ts after. done (app (record { number = (with_tuple state.signature number).symbol }) (trees ts)) after)) (ReadsInRule many (IsRuleTerm m) state)
+        built : OnDone (and_then (arguments (with_signature state (with_tuple state.signature number).signature))
+            (λ ts after. done (app (record { number = (with_tuple state.signature number).symbol }) (trees ts)) after)) (ReadsInRule many (IsRuleTerm m) state)
         built =
             let next = with_signature state (with_tuple state.signature number).signature in
             let g = grows_tuple state.signature number in
@@ -228,7 +245,14 @@ module _ (m : ℕ) where
                 grows = grows_trans state.signature next.signature after.signature g r.grows;
                 tuples = r.tuples;
                 few = omega arith;
-                value = applied_term after.signature (record { number = (with_tuple state.signature number).symbol }) number ts (kept_arity next.signature after.signature r.grows (record { number = (with_tuple state.signature number).symbol }) number (tuple_arity state.signature number h)) r.value;
+                value =
+                    applied_term
+                    after.signature
+                    (record { number = (with_tuple state.signature number).symbol })
+                    number
+                    ts
+                    (kept_arity next.signature after.signature r.grows (record { number = (with_tuple state.signature number).symbol }) number (tuple_arity state.signature number h))
+                    r.value;
               };
             })
 
@@ -240,28 +264,37 @@ module _ (m : ℕ) where
 
   module _ (definitions : List Definition) where
     mutual
-      pub rule_term_read : (parts : Parts) (state : InRule) → HasTuples state.signature → length state.variables + length (lexemes parts) < m → OnDone (rule_term definitions parts state) (ReadsInRule (length (lexemes parts)) (IsRuleTerm m) state)
+      pub rule_term_read :
+          (parts : Parts) (state : InRule) → HasTuples state.signature → length state.variables + length (lexemes parts) < m
+          → OnDone (rule_term definitions parts state) (ReadsInRule (length (lexemes parts)) (IsRuleTerm m) state)
       rule_term_read none state h few = read_here 0 (IsRuleTerm m) state (leaf (var 0)) h (omega arith)
       rule_term_read (inner p inside parts) state h few =
           let all = length-append (lexemes inside) (lexemes parts) in
-          read_later 0 (length (lexemes inside)) (length (lexemes (inner p inside parts))) (IsRuleTerm m) state state (rule_term definitions inside state) (grows_refl state.signature) (omega arith) (omega arith) (rule_term_read inside state h (omega arith))
+          read_later 0 (length (lexemes inside)) (length (lexemes (inner p inside parts))) (IsRuleTerm m) state state (rule_term definitions inside state) (grows_refl state.signature)
+          (omega arith) (omega arith) (rule_term_read inside state h (omega arith))
       rule_term_read (token lexeme parts) state h few =
           let arguments : ReadsArguments (length (lexemes parts)) (count_inner parts) (rule_terms definitions parts) = record { reads = λ t k l. rule_terms_read parts t k l } in
           on_if (is_kind kinds.Identifier lexeme) _ _ (ReadsInRule (length (lexemes (token lexeme parts))) (IsRuleTerm m) state)
-          (λ e. identifier_read lexeme (length (lexemes parts)) (length (lexemes (token lexeme parts))) (count_inner parts) (rule_terms definitions parts) state arguments h (omega arith) few (has_more parts) (declared_meaning state.signature definitions lexeme.text) (declared_there state.signature definitions lexeme.text))
+          (λ e. identifier_read lexeme (length (lexemes parts)) (length (lexemes (token lexeme parts))) (count_inner parts) (rule_terms definitions parts) state arguments h (omega arith) few
+          (has_more parts) (declared_meaning state.signature definitions lexeme.text) (declared_there state.signature definitions lexeme.text))
           (λ e. tuple_read lexeme (length (lexemes parts)) (length (lexemes (token lexeme parts))) (count_inner parts) (rule_terms definitions parts) state arguments h (omega arith) few)
 
-      pub rule_terms_read : (parts : Parts) (state : InRule) → HasTuples state.signature → length state.variables + length (lexemes parts) < m → OnDone (rule_terms definitions parts state) (ReadsInRule (length (lexemes parts)) (AreRuleTerms m (count_inner parts)) state)
+      pub rule_terms_read :
+          (parts : Parts) (state : InRule) → HasTuples state.signature → length state.variables + length (lexemes parts) < m
+          → OnDone (rule_terms definitions parts state) (ReadsInRule (length (lexemes parts)) (AreRuleTerms m (count_inner parts)) state)
       rule_terms_read none state h few = read_here 0 (AreRuleTerms m 0) state [] h (no_terms state.signature)
       rule_terms_read (token lexeme parts) state h few =
-          read_later 0 (length (lexemes parts)) (length (lexemes (token lexeme parts))) (AreRuleTerms m (count_inner parts)) state state (rule_terms definitions parts state) (grows_refl state.signature) (omega arith) (omega arith) (rule_terms_read parts state h (omega arith))
+          read_later 0 (length (lexemes parts)) (length (lexemes (token lexeme parts))) (AreRuleTerms m (count_inner parts)) state state (rule_terms definitions parts state)
+          (grows_refl state.signature) (omega arith) (omega arith) (rule_terms_read parts state h (omega arith))
       rule_terms_read (inner p inside parts) state h few =
           let all = length-append (lexemes inside) (lexemes parts) in
-          on_then (rule_term definitions inside state) _ (ReadsInRule (length (lexemes inside)) (IsRuleTerm m) state) (ReadsInRule (length (lexemes (inner p inside parts))) (AreRuleTerms m (count_inner (inner p inside parts))) state)
+          on_then (rule_term definitions inside state) _ (ReadsInRule (length (lexemes inside)) (IsRuleTerm m) state)
+          (ReadsInRule (length (lexemes (inner p inside parts))) (AreRuleTerms m (count_inner (inner p inside parts))) state)
           (rule_term_read inside state h (omega arith))
           (λ t after r.
           let one = r.few in
-          on_then (rule_terms definitions parts after) _ (ReadsInRule (length (lexemes parts)) (AreRuleTerms m (count_inner parts)) after) (ReadsInRule (length (lexemes (inner p inside parts))) (AreRuleTerms m (count_inner (inner p inside parts))) state)
+          on_then (rule_terms definitions parts after) _ (ReadsInRule (length (lexemes parts)) (AreRuleTerms m (count_inner parts)) after)
+          (ReadsInRule (length (lexemes (inner p inside parts))) (AreRuleTerms m (count_inner (inner p inside parts))) state)
           (rule_terms_read parts after r.tuples (omega arith))
           (λ ts last q.
           let two = q.few in

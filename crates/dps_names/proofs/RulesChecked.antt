@@ -11,12 +11,12 @@ use Rattle.dps_lex.proofs.Classes.{lexeme_long}
 use Rattle.dps_terms.specs.declared.Sym.{Sym}
 use Rattle.dps_terms.specs.Tree.{Tree, leaf, app}
 use Rattle.dps_terms.specs.Signature.{Signature, HasArity, shapes}
-use Rattle.dps_terms.specs.Names.{symbol_named}
+use Rattle.dps_terms.specs.Names.{projection_name, symbol_named}
 use Rattle.dps_terms.proofs.Building.{leaf_meets}
 use Rattle.dps_theory.specs.Theory.{Rule}
 use Rattle.dps_theory.specs.Judging.{root_of}
 use Rattle.dps_theory.specs.Overlaps.{HasSmallVariables}
-use Rattle.dps_theory.specs.Projections.{projection_name, symbol_with, projections}
+use Rattle.dps_theory.specs.Projections.{symbol_with, projections}
 use Rattle.dps_theory.specs.Conditions.{IsRuleOver, IsPlainRule, HasNoProjection, AreCheckable}
 use Rattle.dps_theory.proofs.TupleRules.{IsProjection, is_projection}
 use Rattle.dps_syntax.specs.Tree.{lexemes}
@@ -24,7 +24,7 @@ use Rattle.dps_syntax.specs.Files.{lexeme_at, trees_of}
 use Rattle.dps_scopes.specs.Scopes.{begins_as_projection}
 use Rattle.dps_names.specs.Program.{Program, WrittenRule}
 use Rattle.dps_names.specs.Laws.{RulesAreCheckable}
-use Rattle.dps_names.proofs.Growing.{HasTuples, has_projections, symbol_found}
+use Rattle.dps_names.proofs.SignatureGrowth.{HasTuples, has_projections, symbol_found}
 use Rattle.dps_names.proofs.RuleTerms.{IsLeafOfRule, term_over, term_plain}
 use Rattle.dps_names.proofs.RuleSides.{HasFreeRoot, IsRuleOfFile}
 use Rattle.dps_names.proofs.RuleDeclarations.{rules_of_file}
@@ -62,7 +62,9 @@ has_small_variables m s r few h = λ n stands. elim stands [
   | inr d ↦ let small : n < m = leaf_meets (IsLeafOfRule s m) (HasArity (shapes s)) h.right d in omega (arith, small, few)
 ]
 
-pub checkable : (m : ℕ) (program : Program) → m ≤ 2 ^ 32 → length program.rules < 2 ^ 24 → HasTuples program.signature → All (λ w. IsRuleOfFile m program.signature w.rule) program.rules → AreCheckable program.signature (map (λ r. r.rule) program.rules)
+pub checkable :
+    (m : ℕ) (program : Program) → m ≤ 2 ^ 32 → length program.rules < 2 ^ 24 → HasTuples program.signature
+    → All (λ w. IsRuleOfFile m program.signature w.rule) program.rules → AreCheckable program.signature (map (λ r. r.rule) program.rules)
 checkable m program small few tuples rules =
     let s = program.signature in
     let same = length-map program.rules (λ (w : WrittenRule). w.rule) in
@@ -76,7 +78,12 @@ checkable m program small few tuples rules =
     }
   where
     each : (P : Rule → Type 0) → ((r : Rule) → IsRuleOfFile m program.signature r → P r) → All P (map (λ r. r.rule) program.rules)
-    each P k = All-map P (λ (w : WrittenRule). w.rule) program.rules (All-weaker (λ (w : WrittenRule). IsRuleOfFile m program.signature w.rule) (λ (w : WrittenRule). P w.rule) (λ w h. k w.rule h) program.rules rules)
+    each P k =
+        All-map
+        P
+        (λ (w : WrittenRule). w.rule)
+        program.rules
+        (All-weaker (λ (w : WrittenRule). IsRuleOfFile m program.signature w.rule) (λ (w : WrittenRule). P w.rule) (λ w h. k w.rule h) program.rules rules)
 
 -- the rules of a text
 pub rules_checkable : RulesAreCheckable

@@ -91,11 +91,28 @@ exchange_case4 l0 l1 l2 p3 i3 none h = record { receives = λ definitions scope 
 exchange_case4 l0 l1 l2 p3 i3 (token l ps) h = absurd h
 exchange_case4 l0 l1 l2 p3 i3 (inner p i ps) h = record { receives = λ definitions scope s. refl; sends = λ definitions scope s. refl }
 
-pub exchange_ends4 : (P0 P1 P2 P3 P4 : Parts) (l0 : Lexeme) (l1 : Lexeme) (l2 : Lexeme) (i3 : Parts) → P0 ≡ token l0 P1 → P1 ≡ token l1 P2 → P2 ≡ token l2 P3 → IsLed P3 i3 P4 → HasNoToken P4 → IsNoExchange P0
-exchange_ends4 P0 P1 P2 P3 P4 l0 l1 l2 i3 e0 e1 e2 e3 h = subst IsNoExchange (sym ((((e0) ∙ ap (λ x. (token l0 x)) (e1)) ∙ ap (λ x. (token l0 (token l1 x))) (e2)) ∙ ap (λ x. (token l0 (token l1 (token l2 x)))) (e3.split))) (exchange_case4 l0 l1 l2 e3.p i3 P4 h)
+pub exchange_ends4 :
+    (P0 P1 P2 P3 P4 : Parts) (l0 : Lexeme) (l1 : Lexeme) (l2 : Lexeme) (i3 : Parts) → P0 ≡ token l0 P1 → P1 ≡ token l1 P2 → P2 ≡ token l2 P3
+    → IsLed P3 i3 P4 → HasNoToken P4 → IsNoExchange P0
+exchange_ends4 P0 P1 P2 P3 P4 l0 l1 l2 i3 e0 e1 e2 e3 h =
+    subst
+    IsNoExchange
+    (sym ((((e0) ∙ ap (λ x. (token l0 x)) (e1)) ∙ ap (λ x. (token l0 (token l1 x))) (e2)) ∙ ap (λ x. (token l0 (token l1 (token l2 x)))) (e3.split)))
+    (exchange_case4 l0 l1 l2 e3.p i3 P4 h)
 
-pub exchange_stands : (P0 P1 P2 P3 P4 P5 : Parts) (l0 : Lexeme) (l1 : Lexeme) (l2 : Lexeme) (i3 : Parts) (l4 : Lexeme) → P0 ≡ token l0 P1 → P1 ≡ token l1 P2 → P2 ≡ token l2 P3 → IsLed P3 i3 P4 → P4 ≡ token l4 P5 → IsExchange P0 l1 i3 P5
-exchange_stands P0 P1 P2 P3 P4 P5 l0 l1 l2 i3 l4 e0 e1 e2 e3 e4 = record { bracket = l0; comma = l2; close = l4; p = e3.p; split = ((((e0) ∙ ap (λ x. (token l0 x)) e1) ∙ ap (λ x. (token l0 (token l1 x))) e2) ∙ ap (λ x. (token l0 (token l1 (token l2 x)))) e3.split) ∙ ap (λ x. (token l0 (token l1 (token l2 (inner e3.p i3 x))))) e4 }
+pub exchange_stands :
+    (P0 P1 P2 P3 P4 P5 : Parts) (l0 : Lexeme) (l1 : Lexeme) (l2 : Lexeme) (i3 : Parts) (l4 : Lexeme) → P0 ≡ token l0 P1 → P1 ≡ token l1 P2
+    → P2 ≡ token l2 P3 → IsLed P3 i3 P4 → P4 ≡ token l4 P5 → IsExchange P0 l1 i3 P5
+exchange_stands P0 P1 P2 P3 P4 P5 l0 l1 l2 i3 l4 e0 e1 e2 e3 e4 =
+    record {
+      bracket = l0;
+      comma = l2;
+      close = l4;
+      p = e3.p;
+      split =
+          ((((e0) ∙ ap (λ x. (token l0 x)) e1) ∙ ap (λ x. (token l0 (token l1 x))) e2) ∙ ap (λ x. (token l0 (token l1 (token l2 x)))) e3.split) ∙ ap
+          (λ x. (token l0 (token l1 (token l2 (inner e3.p i3 x))))) e4;
+    }
 
 pub ruleset for_exchange = (exchange_ends0, exchange_ends1, exchange_ends2, exchange_ends3, exchange_ends4, exchange_stands)
 
@@ -129,17 +146,38 @@ comparison_case3 p0 i0 l1 p2 i2 (token l ps) h = absurd h
 comparison_case3 p0 i0 l1 p2 i2 (inner p i ps) h = record { compares = λ definitions scope s. refl; matches = λ definitions scope s. refl }
 
 pub comparison_ends3 : (P0 P1 P2 P3 : Parts) (i0 : Parts) (l1 : Lexeme) (i2 : Parts) → IsLed P0 i0 P1 → P1 ≡ token l1 P2 → IsLed P2 i2 P3 → HasNoToken P3 → IsNoComparison P0
-comparison_ends3 P0 P1 P2 P3 i0 l1 i2 e0 e1 e2 h = subst IsNoComparison (sym (((e0.split) ∙ ap (λ x. (inner e0.p i0 x)) (e1)) ∙ ap (λ x. (inner e0.p i0 (token l1 x))) (e2.split))) (comparison_case3 e0.p i0 l1 e2.p i2 P3 h)
+comparison_ends3 P0 P1 P2 P3 i0 l1 i2 e0 e1 e2 h =
+    subst IsNoComparison (sym (((e0.split) ∙ ap (λ x. (inner e0.p i0 x)) (e1)) ∙ ap (λ x. (inner e0.p i0 (token l1 x))) (e2.split))) (comparison_case3 e0.p i0 l1 e2.p i2 P3 h)
 
-comparison_case4 : (p0 : Production) (i0 : Parts) (l1 : Lexeme) (p2 : Production) (i2 : Parts) (l3 : Lexeme) (P : Parts) → HasNoInner P → IsNoComparison (inner p0 i0 (token l1 (inner p2 i2 (token l3 P))))
+comparison_case4 :
+    (p0 : Production) (i0 : Parts) (l1 : Lexeme) (p2 : Production) (i2 : Parts) (l3 : Lexeme) (P : Parts) → HasNoInner P
+    → IsNoComparison (inner p0 i0 (token l1 (inner p2 i2 (token l3 P))))
 comparison_case4 p0 i0 l1 p2 i2 l3 none h = record { compares = λ definitions scope s. refl; matches = λ definitions scope s. refl }
 comparison_case4 p0 i0 l1 p2 i2 l3 (token l ps) h = record { compares = λ definitions scope s. refl; matches = λ definitions scope s. refl }
 comparison_case4 p0 i0 l1 p2 i2 l3 (inner p i ps) h = absurd h
 
-pub comparison_ends4 : (P0 P1 P2 P3 P4 : Parts) (i0 : Parts) (l1 : Lexeme) (i2 : Parts) (l3 : Lexeme) → IsLed P0 i0 P1 → P1 ≡ token l1 P2 → IsLed P2 i2 P3 → P3 ≡ token l3 P4 → HasNoInner P4 → IsNoComparison P0
-comparison_ends4 P0 P1 P2 P3 P4 i0 l1 i2 l3 e0 e1 e2 e3 h = subst IsNoComparison (sym ((((e0.split) ∙ ap (λ x. (inner e0.p i0 x)) (e1)) ∙ ap (λ x. (inner e0.p i0 (token l1 x))) (e2.split)) ∙ ap (λ x. (inner e0.p i0 (token l1 (inner e2.p i2 x)))) (e3))) (comparison_case4 e0.p i0 l1 e2.p i2 l3 P4 h)
+pub comparison_ends4 :
+    (P0 P1 P2 P3 P4 : Parts) (i0 : Parts) (l1 : Lexeme) (i2 : Parts) (l3 : Lexeme) → IsLed P0 i0 P1 → P1 ≡ token l1 P2 → IsLed P2 i2 P3
+    → P3 ≡ token l3 P4 → HasNoInner P4 → IsNoComparison P0
+comparison_ends4 P0 P1 P2 P3 P4 i0 l1 i2 l3 e0 e1 e2 e3 h =
+    subst
+    IsNoComparison
+    (sym ((((e0.split) ∙ ap (λ x. (inner e0.p i0 x)) (e1)) ∙ ap (λ x. (inner e0.p i0 (token l1 x))) (e2.split)) ∙ ap (λ x. (inner e0.p i0 (token l1 (inner e2.p i2 x)))) (e3)))
+    (comparison_case4 e0.p i0 l1 e2.p i2 l3 P4 h)
 
-pub comparison_stands : (P0 P1 P2 P3 P4 P5 : Parts) (i0 : Parts) (l1 : Lexeme) (i2 : Parts) (l3 : Lexeme) (i4 : Parts) → IsLed P0 i0 P1 → P1 ≡ token l1 P2 → IsLed P2 i2 P3 → P3 ≡ token l3 P4 → IsLed P4 i4 P5 → IsComparison P0 i0 i2 i4 P5
-comparison_stands P0 P1 P2 P3 P4 P5 i0 l1 i2 l3 i4 e0 e1 e2 e3 e4 = record { p = e0.p; q = e2.p; r = e4.p; equals = l1; word = l3; split = ((((e0.split) ∙ ap (λ x. (inner e0.p i0 x)) e1) ∙ ap (λ x. (inner e0.p i0 (token l1 x))) e2.split) ∙ ap (λ x. (inner e0.p i0 (token l1 (inner e2.p i2 x)))) e3) ∙ ap (λ x. (inner e0.p i0 (token l1 (inner e2.p i2 (token l3 x))))) e4.split }
+pub comparison_stands :
+    (P0 P1 P2 P3 P4 P5 : Parts) (i0 : Parts) (l1 : Lexeme) (i2 : Parts) (l3 : Lexeme) (i4 : Parts) → IsLed P0 i0 P1 → P1 ≡ token l1 P2
+    → IsLed P2 i2 P3 → P3 ≡ token l3 P4 → IsLed P4 i4 P5 → IsComparison P0 i0 i2 i4 P5
+comparison_stands P0 P1 P2 P3 P4 P5 i0 l1 i2 l3 i4 e0 e1 e2 e3 e4 =
+    record {
+      p = e0.p;
+      q = e2.p;
+      r = e4.p;
+      equals = l1;
+      word = l3;
+      split =
+          ((((e0.split) ∙ ap (λ x. (inner e0.p i0 x)) e1) ∙ ap (λ x. (inner e0.p i0 (token l1 x))) e2.split) ∙ ap (λ x. (inner e0.p i0 (token l1 (inner e2.p i2 x)))) e3) ∙ ap
+          (λ x. (inner e0.p i0 (token l1 (inner e2.p i2 (token l3 x))))) e4.split;
+    }
 
 pub ruleset for_comparison = (comparison_ends0, comparison_ends1, comparison_ends2, comparison_ends3, comparison_ends4, comparison_stands)

@@ -2,7 +2,7 @@
 use Rattle.std.proofs.Common.{◌≤◌, ℕ, ◌+◌}
 use Rattle.dps_terms.specs.Signature.{Signature, HasArity, shapes}
 use Rattle.dps_scopes.specs.Scopes.{with_tuple}
-use Rattle.dps_names.proofs.Growing.{Grows, HasTuples, grows_tuple, tuples_tuple, tuple_arity, projection_arity}
+use Rattle.dps_names.proofs.SignatureGrowth.{Grows, HasTuples, grows_tuple, tuples_tuple, tuple_arity, projection_arity}
 
 -- the signature behind grew from the one before, and has the tuple's symbol and its projections
 pub record IsTupled (signature : Signature) (n symbol : ℕ) (after : Signature) : Type 0 where

@@ -11,7 +11,7 @@ use Rattle.dps_names.specs.Declarations.{names_of}
 abbrev pub IsProgram : List Decl → Program → Type 0
 IsProgram decls program = names_of decls ≡ done tt program
 
--- the declarations are refused by the first fault of their names, or for want of memory
+-- the declarations are refused by the first fault of their names, or out of memory
 abbrev pub IsRefused : List Decl → NameRefusal → Type 0
 IsRefused decls (Fault fault) = names_of decls ≡ faulty fault
 IsRefused decls Memory = ⊤

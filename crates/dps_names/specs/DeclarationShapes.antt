@@ -8,7 +8,8 @@ use Rattle.dps_scopes.specs.declared.fault.NameRefusal.{NameRefusal}
 use Rattle.dps_scopes.specs.Outcome.{Outcome, Answers, done, and_then, fault_at}
 use Rattle.dps_names.specs.Program.{Program}
 use Rattle.dps_names.specs.Processes.{is_among}
-use Rattle.dps_names.specs.Declarations.{Known, with_signature, names, declare_names, is_marked_private, functions, declaring, with_constructor, define, parameters, define_with, query, side, with_sides}
+use Rattle.dps_names.specs.Declarations.{Known, with_signature, names, declare_names, is_marked_private, functions, declaring, with_constructor, define, parameters}
+use Rattle.dps_names.specs.Declarations.{define_with, query, side, with_sides}
 
 -- one name, one function with its arity, and one parameter
 abbrev pub one_name : Bool → Lexeme → Program → Known
@@ -52,7 +53,8 @@ pub record HasBody (parts inside : Parts) : Type 0 where
 
 pub record HasNoBody (parts : Parts) : Type 0 where
   pub says :
-      (word name equals : Lexeme) (p : Production) (inside : Parts) (program : Program) → define (token word (token name (token equals (inner p inside parts)))) program ≡ and_then (declaring name program) (λ u after. define_with name [] inside after)
+      (word name equals : Lexeme) (p : Production) (inside : Parts) (program : Program) → define (token word (token name (token equals (inner p inside parts)))) program ≡ and_then
+      (declaring name program) (λ u after. define_with name [] inside after)
 
 pub record IsNoDefinition (parts : Parts) : Type 0 where
   pub says : (program : Program) → define parts program ≡ done tt program

@@ -7,7 +7,7 @@ use Rattle.dps_theory.specs.Theory.{Rule}
 use Rattle.dps_theory.specs.Stored.{rule_code}
 use Rattle.dps_scopes.specs.StoredBody.{body_code}
 use Rattle.dps_scopes.specs.StoredDefinition.{definition_code}
-use Rattle.dps_scopes.specs.StoredSignature.{signature_code}
+use Rattle.dps_terms.specs.StoredSignature.{signature_code}
 use Rattle.dps_names.specs.declared.program.Side.{Side}
 use Rattle.dps_names.specs.Program.{Body, Definition, WrittenRule, Program}
 

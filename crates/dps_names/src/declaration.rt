@@ -1,14 +1,15 @@
 //! Declarations and files.
-ghost use Rattle.std.specs.Prelude.{◌≡◌, ◌<◌, position, Some, None, IfOk, IfSome, OnOk, MatchOption, MatchResult};
+ghost use Rattle.std.specs.Prelude.{◌≡◌, ◌<◌, false, position, Some, None, IfOk, IfErr, IfSome, OnOk, MatchOption, MatchResult};
 ghost use Rattle.std.specs.Str.{bytes_eq};
-ghost use Rattle.dps_terms.specs.Names.{IsIdentifier};
+ghost use Rattle.dps_terms.specs.Names.{IsDeclaredText};
+ghost use Rattle.dps_scopes.specs.Scopes.{is_reserved};
 ghost use Rattle.dps_syntax.specs.Tree.{count};
 ghost use Rattle.dps_syntax.specs.Parts.{parts_of};
 ghost use Rattle.dps_scopes.specs.Outcome.{Answers};
 ghost use Rattle.dps_scopes.specs.Blocks.{blocks};
 ghost use Rattle.dps_names.specs.Answers.{IsProgram, IsRefused};
 ghost use Rattle.dps_names.specs.Program.{empty, no_side};
-ghost use Rattle.dps_names.specs.Declarations.{declaring, declare_names, is_marked_private, names, functions, rule_in, rules, parameters, body_of, define_with, define, first_lexeme, first_place, side, query, declaration};
+ghost use Rattle.dps_names.specs.Declarations.{declaring, declare_names, is_marked_private, names, functions, rule_in, rules, parameters, body_of, define_with, define, first_lexeme, first_place, side, query, declaration, declarations as declarations_say};
 ghost use Rattle.dps_names.specs.DeclarationShapes.{one_name, one_function, one_parameter, AreParameters, AreNames, AreNoNames, IsFunction, IsNoFunction, IsDefinition, IsNoDefinition, HasBody, HasNoBody, IsQuery, IsNoQuery};
 
 use crate::number::number_of;
@@ -22,7 +23,7 @@ use dps_scopes::fault::{fault_at, place_of};
 use dps_scopes::meaning::{Meaning, declared_meaning, is_reserved};
 use dps_scopes::parts::is_kind;
 use dps_scopes::scope::Scope;
-use dps_scopes::signature::{Ranked, add_name, add_symbol};
+use dps_scopes::signature::{SignatureBuilder, add_name, add_symbol};
 use dps_scopes::term::MOST_ARGUMENTS;
 use dps_scopes::texts::Texts;
 use dps_scopes::{Body, NameCause, NameRefusal};
@@ -34,7 +35,7 @@ use std::marker::Model;
 /// What the declarations so far say.
 #[derive(Drop)]
 struct Draft {
-    signature: Ranked,
+    signature: SignatureBuilder,
     rules: Vec<WrittenRule>,
     definitions: Definitions,
     left: Side,
@@ -58,7 +59,7 @@ impl Draft {
         ensures { result ≡ empty }
     {
         Draft {
-            signature: Ranked::new(alloc),
+            signature: SignatureBuilder::new(alloc),
             rules: Vec::new(alloc),
             definitions: Definitions::new(alloc),
             left: no_side(),
@@ -98,16 +99,44 @@ fn no_side() -> Side
 }
 
 /// The program of a file: what its declarations say. Where they have a fault of names, the first one; and `Memory` only
-/// for want of memory.
-#[tactic(auto, using(crate::proofs::Declaring::for_files))]
+/// where memory runs out.
+#[tactic(auto, using(crate::proofs::Declaring::refused_by))]
 pub fn resolve(alloc: Global, file: &File) -> Result<Program, NameRefusal>
     ensures { MatchResult result (IsProgram file.now.declarations.items) (IsRefused file.now.declarations.items) }
 {
     let mut draft = Draft::new(alloc);
-    for declaration in &file.declarations {
-        declare(alloc, declaration, &mut draft)?;
+    match declare_all(alloc, file.declarations.as_slice(), &mut draft) {
+        Ok(()) => finished(alloc, draft),
+        Err(refusal) => {
+            discard(draft);
+            Err(refusal)
+        }
     }
-    Ok(draft.into_program(alloc)?)
+}
+
+/// The program of a draft. It fails out of memory alone.
+fn finished(alloc: Global, draft: Draft) -> Result<Program, NameRefusal>
+    ensures ok { IfOk result (λ program. program ≡ draft) }
+    ensures memory { IfErr result (λ refusal. refusal ≡ NameRefusal.Memory) }
+{
+    match draft.into_program(alloc) {
+        Ok(program) => Ok(program),
+        Err(_) => Err(NameRefusal::Memory),
+    }
+}
+
+/// Drops a draft. (A function of its own, since whoever drops it holds the whole of its drop.)
+fn discard(_draft: Draft) {}
+
+/// The declarations in turn.
+#[tactic(auto, using(crate::proofs::Declaring::for_files))]
+fn declare_all(alloc: Global, declarations: &[Decl], draft: &mut Draft) -> Result<(), NameRefusal>
+    ensures { Answers (λ _. tt) draft.new result (declarations_say declarations.now draft.old) }
+{
+    for declaration in declarations {
+        declare(alloc, declaration, draft)?;
+    }
+    Ok(())
 }
 
 /// One declaration, or the query.
@@ -127,7 +156,8 @@ fn declare(alloc: Global, decl: &Decl, draft: &mut Draft) -> Result<(), NameRefu
 /// The text may be declared: it is not reserved, and not declared already.
 #[tactic(auto, using(crate::proofs::Declaring::for_new_names))]
 fn check_new(leaf: &Leaf, draft: &Draft) -> Result<(), NameRefusal>
-    ensures spelled { IfOk result (λ _. IsIdentifier leaf.now.text) }
+    ensures free { IfOk result (λ _. is_reserved leaf.now.text ≡ false) }
+    ensures undeclared { IfOk result (λ _. ¬ IsDeclaredText draft.now.signature leaf.now.text) }
     ensures fresh { IfOk result (λ _. position (λ d. bytes_eq leaf.now.text d.name) draft.now.definitions ≡ None) }
     ensures found { Answers (λ _. tt) draft.now result (declaring leaf.now draft.now) }
 {

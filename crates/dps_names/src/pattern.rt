@@ -12,7 +12,7 @@ use dps_scopes::definitions::Definitions;
 use dps_scopes::fault::fault_at;
 use dps_scopes::parts::{count_inner, is_kind};
 use dps_scopes::scope::{Scope, sum};
-use dps_scopes::signature::{Ranked, projection_symbol, tuple_symbol};
+use dps_scopes::signature::{SignatureBuilder, projection_symbol, tuple_symbol};
 use dps_scopes::term::{MOST_ARGUMENTS, term};
 use dps_scopes::texts::Texts;
 use dps_scopes::{NameCause, NameRefusal, Step};
@@ -78,7 +78,7 @@ pub(crate) fn pattern_in(
     definitions: &Definitions,
     scope: &Scope<'_>,
     parts: &[Part],
-    signature: &mut Ranked,
+    signature: &mut SignatureBuilder,
 ) -> Result<Pattern, NameRefusal>
     ensures { Answers (λ p. p) signature.new result (pattern_in definitions.now (blocks scope.now) (parts_of parts.now) signature.old) }
 {
@@ -95,7 +95,7 @@ fn read_pattern(
     outside: &Scope<'_>,
     parts: &[Part],
     so_far: &mut Pattern,
-    signature: &mut Ranked,
+    signature: &mut SignatureBuilder,
 ) -> Result<(), NameRefusal>
     ensures { Answers (λ _. so_far.new) signature.new result (pattern definitions.now (blocks outside.now) (parts_of parts.now) so_far.old signature.old) }
 {
@@ -131,7 +131,7 @@ fn tested(
     outside: &Scope<'_>,
     parts: &[Part],
     so_far: &mut Pattern,
-    signature: &mut Ranked,
+    signature: &mut SignatureBuilder,
 ) -> Result<(), NameRefusal>
     ensures { Answers (λ _. so_far.new) signature.new result (tested definitions.now (blocks outside.now) (parts_of parts.now) so_far.old signature.old) }
 {
@@ -150,7 +150,7 @@ fn tuple(
     leaf: &Leaf,
     parts: &[Part],
     so_far: &mut Pattern,
-    signature: &mut Ranked,
+    signature: &mut SignatureBuilder,
 ) -> Result<(), NameRefusal>
     ensures { Answers (λ _. so_far.new) signature.new result (tuple_pattern leaf.now (count_inner (parts_of parts.now)) (λ symbol after. members definitions.now (blocks outside.now) (parts_of parts.now) symbol (next_local (blocks outside.now) so_far.old) 1 (unnamed so_far.old) after) signature.old) }
 {
@@ -184,7 +184,7 @@ fn members(
     symbol: Sym,
     from: usize,
     so_far: &mut Pattern,
-    signature: &mut Ranked,
+    signature: &mut SignatureBuilder,
 ) -> Result<(), NameRefusal>
     requires { count_inner (parts_of parts.now) ≤ 8 }
     ensures { Answers (λ _. so_far.new) signature.new result (members definitions.now (blocks outside.now) (parts_of parts.now) symbol.number from 1 so_far.old signature.old) }

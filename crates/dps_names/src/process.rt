@@ -16,7 +16,7 @@ use dps_scopes::fault::{fault_at, place_of};
 use dps_scopes::meaning::{Meaning, meaning_of};
 use dps_scopes::parts::count_inner;
 use dps_scopes::scope::Scope;
-use dps_scopes::signature::Ranked;
+use dps_scopes::signature::SignatureBuilder;
 use dps_scopes::term::{identifier, term, terms};
 use dps_scopes::{Body, Channel, NameCause, NameRefusal};
 use dps_syntax::{Leaf, Part};
@@ -60,7 +60,7 @@ pub(crate) fn parallels(
     definitions: &Definitions,
     scope: &Scope<'_>,
     parts: &[Part],
-    signature: &mut Ranked,
+    signature: &mut SignatureBuilder,
 ) -> Result<Vec<Body>, NameRefusal>
     ensures { Answers (λ v. v.items) signature.new result (parallels definitions.now (blocks scope.now) (parts_of parts.now) signature.old) }
 {
@@ -83,7 +83,7 @@ fn choices(
     definitions: &Definitions,
     scope: &Scope<'_>,
     parts: &[Part],
-    signature: &mut Ranked,
+    signature: &mut SignatureBuilder,
 ) -> Result<Vec<Body>, NameRefusal>
     ensures { Answers (λ v. v.items) signature.new result (choices definitions.now (blocks scope.now) (parts_of parts.now) signature.old) }
 {
@@ -106,7 +106,7 @@ fn process(
     definitions: &Definitions,
     scope: &Scope<'_>,
     parts: &[Part],
-    signature: &mut Ranked,
+    signature: &mut SignatureBuilder,
 ) -> Result<Body, NameRefusal>
     ensures { Answers (λ b. b) signature.new result (process definitions.now (blocks scope.now) (parts_of parts.now) signature.old) }
 {
@@ -133,7 +133,7 @@ fn called(
     scope: &Scope<'_>,
     leaf: &Leaf,
     arguments: &[Part],
-    signature: &mut Ranked,
+    signature: &mut SignatureBuilder,
 ) -> Result<Body, NameRefusal>
     ensures { Answers (λ b. b) signature.new result (call_as leaf.now (count_inner (parts_of arguments.now)) (terms definitions.now (blocks scope.now) (parts_of arguments.now) signature.old) (meaning signature.old definitions.now (blocks scope.now) leaf.now.text)) }
 {
@@ -161,7 +161,7 @@ fn grouped(
     definitions: &Definitions,
     scope: &Scope<'_>,
     parts: &[Part],
-    signature: &mut Ranked,
+    signature: &mut SignatureBuilder,
 ) -> Result<Body, NameRefusal>
     ensures { Answers (λ b. b) signature.new result (grouped definitions.now (blocks scope.now) (parts_of parts.now) signature.old) }
 {
@@ -182,7 +182,7 @@ fn repeated(
     definitions: &Definitions,
     scope: &Scope<'_>,
     parts: &[Part],
-    signature: &mut Ranked,
+    signature: &mut SignatureBuilder,
 ) -> Result<Body, NameRefusal>
     ensures { Answers (λ b. b) signature.new result (repeated definitions.now (blocks scope.now) (parts_of parts.now) signature.old) }
 {
@@ -219,7 +219,7 @@ fn restricted(
     definitions: &Definitions,
     scope: &Scope<'_>,
     parts: &[Part],
-    signature: &mut Ranked,
+    signature: &mut SignatureBuilder,
 ) -> Result<Body, NameRefusal>
     ensures { Answers (λ b. b) signature.new result (restricted definitions.now (blocks scope.now) (parts_of parts.now) signature.old) }
 {
@@ -239,7 +239,7 @@ fn channel(
     definitions: &Definitions,
     scope: &Scope<'_>,
     leaf: &Leaf,
-    signature: &mut Ranked,
+    signature: &mut SignatureBuilder,
 ) -> Result<Channel, NameRefusal>
     ensures { Answers (λ c. c) signature.new result (channel definitions.now (blocks scope.now) leaf.now signature.old) }
 {
@@ -258,7 +258,7 @@ fn received(
     definitions: &Definitions,
     scope: &Scope<'_>,
     parts: &[Part],
-    signature: &mut Ranked,
+    signature: &mut SignatureBuilder,
 ) -> Result<Body, NameRefusal>
     ensures { Answers (λ b. b) signature.new result (received definitions.now (blocks scope.now) (parts_of parts.now) signature.old) }
 {
@@ -282,7 +282,7 @@ fn sent(
     definitions: &Definitions,
     scope: &Scope<'_>,
     parts: &[Part],
-    signature: &mut Ranked,
+    signature: &mut SignatureBuilder,
 ) -> Result<Body, NameRefusal>
     ensures { Answers (λ b. b) signature.new result (sent definitions.now (blocks scope.now) (parts_of parts.now) signature.old) }
 {
@@ -305,7 +305,7 @@ fn compared(
     definitions: &Definitions,
     scope: &Scope<'_>,
     parts: &[Part],
-    signature: &mut Ranked,
+    signature: &mut SignatureBuilder,
 ) -> Result<Body, NameRefusal>
     ensures { Answers (λ b. b) signature.new result (compared definitions.now (blocks scope.now) (parts_of parts.now) signature.old) }
 {
@@ -329,7 +329,7 @@ fn matched(
     definitions: &Definitions,
     scope: &Scope<'_>,
     parts: &[Part],
-    signature: &mut Ranked,
+    signature: &mut SignatureBuilder,
 ) -> Result<Body, NameRefusal>
     ensures { Answers (λ b. b) signature.new result (matched definitions.now (blocks scope.now) (parts_of parts.now) signature.old) }
 {
@@ -354,7 +354,7 @@ fn continued(
     definitions: &Definitions,
     scope: &Scope<'_>,
     parts: &[Part],
-    signature: &mut Ranked,
+    signature: &mut SignatureBuilder,
 ) -> Result<Body, NameRefusal>
     ensures { Answers (λ b. b) signature.new result (continued definitions.now (blocks scope.now) (parts_of parts.now) signature.old) }
 {

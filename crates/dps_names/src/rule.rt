@@ -12,7 +12,7 @@ use dps_scopes::definitions::Definitions;
 use dps_scopes::fault::place_of;
 use dps_scopes::parts::count_inner;
 use dps_scopes::rule_term::{root, rule_terms};
-use dps_scopes::signature::Ranked;
+use dps_scopes::signature::SignatureBuilder;
 use dps_scopes::texts::Texts;
 use dps_syntax::Part;
 use dps_terms::{NoMemory, Sym, Term};
@@ -25,7 +25,7 @@ pub(crate) fn read_rule(
     alloc: Global,
     definitions: &Definitions,
     parts: &[Part],
-    signature: &mut Ranked,
+    signature: &mut SignatureBuilder,
 ) -> Result<Option<WrittenRule>, NameRefusal>
     ensures { Answers option_to_list signature.new result (rule definitions.now (parts_of parts.now) signature.old) }
 {

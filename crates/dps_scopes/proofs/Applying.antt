@@ -21,7 +21,10 @@ applying_first all left trees uses c t u = record {
   few = omega (arith, ap length t);
 }
 
-pub applying_more : (all rest after : List Written) (left next : ℕ) (trees trees' : List Tree) (uses uses' : List Use) (w : Written) → IsApplying all rest left trees uses → rest ≡ w ∷ after → next + 1 ≡ left → trees' ≡ trees ++ w.tree ∷ [] → uses' ≡ uses ++ w.uses → IsApplying all after next trees' uses'
+pub applying_more :
+    (all rest after : List Written) (left next : ℕ) (trees trees' : List Tree) (uses uses' : List Use) (w : Written)
+    → IsApplying all rest left trees uses → rest ≡ w ∷ after → next + 1 ≡ left → trees' ≡ trees ++ w.tree ∷ [] → uses' ≡ uses ++ w.uses
+    → IsApplying all after next trees' uses'
 applying_more all rest after left next trees trees' uses uses' w r e c t u = record {
   trees_are = r.trees_are ∙ (ap (λ xs. trees ++ all_trees xs) e ∙ (sym (append_assoc trees (w.tree ∷ []) (all_trees after)) ∙ ap (λ ts. ts ++ all_trees after) (sym t)));
   uses_are = r.uses_are ∙ (ap (λ xs. uses ++ all_uses xs) e ∙ (sym (append_assoc uses w.uses (all_uses after)) ∙ ap (λ us. us ++ all_uses after) (sym u)));

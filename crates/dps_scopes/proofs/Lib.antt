@@ -1,8 +1,10 @@
 pub mod Places
+pub mod FirstPlaces
+pub mod Identifiers
+pub mod TupleTexts
+pub mod Undeclared
 pub mod Signatures
 pub mod Rows
-pub mod Identifiers
 pub mod Applying
 pub mod Listing
 pub mod Noting
-pub mod Ranking

@@ -19,7 +19,9 @@ pub record IsListing (all rest : List Entry) (found : List Definition) : Type 0 
 pub listing_first : (all rest : List Entry) (found : List Definition) → rest ≡ all → found ≡ [] → IsListing all rest found
 listing_first all rest found e n = record { split = ap (map definition_of) (sym e) ∙ ap (λ ds. ds ++ map definition_of rest) (sym n) }
 
-pub listing_more : (all rest after : List Entry) (found new : List Definition) (e : Entry) (d : Definition) → IsListing all rest found → rest ≡ e ∷ after → d ≡ definition_of e → new ≡ found ++ d ∷ [] → IsListing all after new
+pub listing_more :
+    (all rest after : List Entry) (found new : List Definition) (e : Entry) (d : Definition) → IsListing all rest found → rest ≡ e ∷ after
+    → d ≡ definition_of e → new ≡ found ++ d ∷ [] → IsListing all after new
 listing_more all rest after found new e d r h f n = record {
   split =
       r.split ∙ (ap (λ es. found ++ map definition_of es) h ∙ (sym (append_assoc found (definition_of e ∷ []) (map definition_of after))

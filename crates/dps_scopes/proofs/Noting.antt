@@ -20,7 +20,8 @@ by_numbers k n j m false l e f = grind (arith, l, e, f)
 -- the place of a text in the list with one more
 pub position-push : {X : Type 0} (p : X → Bool) (xs : List X) (y : X) → position p (xs ++ y ∷ []) ≡ place_or_last (position p xs) (p y) (length xs)
 position-push p xs y =
-    by_numbers (position_or_len p xs) (length xs) (position_or_len p (xs ++ y ∷ [])) (length (xs ++ y ∷ [])) (p y) (prefix_len-le-length (λ x. not (p x)) xs) (position_or_len_push p xs y) (length-append xs (y ∷ []))
+    by_numbers (position_or_len p xs) (length xs) (position_or_len p (xs ++ y ∷ [])) (length (xs ++ y ∷ [])) (p y) (prefix_len-le-length (λ x. not (p x)) xs) (position_or_len_push p xs y)
+    (length-append xs (y ∷ []))
 
 either_way : (xs ys : List ℕ) → bytes_eq xs ys ≡ bytes_eq ys xs
 either_way xs ys =
@@ -32,7 +33,10 @@ kept (Some i) n = refl
 kept None n = refl
 
 -- a text that had no place has one
-pub noted : {Y S : Type 0} (old new : HashMap (String Y) ℕ S) (text : String Y) (n : ℕ) → get_by_text old (string_bytes text) ≡ None → UpdatesBy string_eq (λ k. bytes_eq (string_bytes text) (string_bytes k)) old new (Some n) → (q : List ℕ) → get_by_text new q ≡ place_or_last (get_by_text old q) (bytes_eq q (string_bytes text)) n
+pub noted :
+    {Y S : Type 0} (old new : HashMap (String Y) ℕ S) (text : String Y) (n : ℕ) → get_by_text old (string_bytes text) ≡ None
+    → UpdatesBy string_eq (λ k. bytes_eq (string_bytes text) (string_bytes k)) old new (Some n) → (q : List ℕ)
+    → get_by_text new q ≡ place_or_last (get_by_text old q) (bytes_eq q (string_bytes text)) n
 noted old new text n none u q =
     hash_map_updates_text (string_bytes text) old new (Some n) u q
     ∙ (by_test (bytes_eq (string_bytes text) q) refl ∙ ap (λ b. place_or_last (get_by_text old q) b n) (either_way (string_bytes text) q))

@@ -9,5 +9,3 @@ prefix_len-map p f (x ∷ xs) = ap (λ n. cond (p (f x)) (1 + n) 0) (prefix_len-
 
 pub position-map : {X Y : Type 0} (p : Y → Bool) (f : X → Y) (xs : List X) → position p (map f xs) ≡ position (λ x. p (f x)) xs
 position-map p f xs = rw (length-map xs f, prefix_len-map (λ y. not (p y)) f xs) refl
-
-pub ruleset for_texts = (position-map)

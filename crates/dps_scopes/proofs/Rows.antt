@@ -45,13 +45,17 @@ pub record IsCounting (all rest : Parts) (index counted : ℕ) : Type 0 where
 pub counting_first : (all : Parts) → IsCounting all all 0 0
 counting_first all = record { counts = omega arith; within = omega arith }
 
-pub counting_token : (all : Parts) (xs : List Part) (i n : ℕ) (d : Part) (l : Lexeme) → IsCounting all (parts_of (drop i xs)) i n → i < length xs → get_or xs i d ≡ Token l → IsCounting all (parts_of (drop (i + 1) xs)) (i + 1) n
+pub counting_token :
+    (all : Parts) (xs : List Part) (i n : ℕ) (d : Part) (l : Lexeme) → IsCounting all (parts_of (drop i xs)) i n → i < length xs
+    → get_or xs i d ≡ Token l → IsCounting all (parts_of (drop (i + 1) xs)) (i + 1) n
 counting_token all xs i n d l r h e = record {
   counts = ap (λ ps. n + count_inner ps) (sym (at_token xs i d l h e)) ∙ r.counts;
   within = omega (arith, r.within);
 }
 
-pub counting_inner : (all : Parts) (xs : List Part) (i n : ℕ) (d : Part) (t : Derivation) → IsCounting all (parts_of (drop i xs)) i n → i < length xs → get_or xs i d ≡ Inner t → IsCounting all (parts_of (drop (i + 1) xs)) (i + 1) (n + 1)
+pub counting_inner :
+    (all : Parts) (xs : List Part) (i n : ℕ) (d : Part) (t : Derivation) → IsCounting all (parts_of (drop i xs)) i n → i < length xs
+    → get_or xs i d ≡ Inner t → IsCounting all (parts_of (drop (i + 1) xs)) (i + 1) (n + 1)
 counting_inner all xs i n d t r h e =
     let one : n + count_inner (inner t.production t.parts (parts_of (drop (i + 1) xs))) ≡ count_inner all = ap (λ ps. n + count_inner ps) (sym (at_inner xs i d t h e)) ∙ r.counts in
     record { counts = omega (arith, one); within = omega (arith, r.within) }
@@ -82,7 +86,10 @@ module _ {S A : Type 0} (one : Parts → S → Outcome S A) (many : Parts → S 
       whole (done ws last) = refl
       whole (faulty f) = refl
 
-  pub past_token : (all : Parts) (start : S) (found : List A) (xs : List Part) (i : ℕ) (d : Part) (l : Lexeme) (now : S) → Reads many all start found (parts_of (drop i xs)) now → i < length xs → get_or xs i d ≡ Token l → Reads many all start found (parts_of (drop (i + 1) xs)) now
+  pub past_token :
+      (all : Parts) (start : S) (found : List A) (xs : List Part) (i : ℕ) (d : Part) (l : Lexeme) (now : S)
+      → Reads many all start found (parts_of (drop i xs)) now → i < length xs → get_or xs i d ≡ Token l
+      → Reads many all start found (parts_of (drop (i + 1) xs)) now
   past_token all start found xs i d l now reads h e = go (subst (λ ps. Reads many all start found ps now) (at_token xs i d l h e) reads)
     where
       go : Reads many all start found (token l (parts_of (drop (i + 1) xs))) now → Reads many all start found (parts_of (drop (i + 1) xs)) now
@@ -91,8 +98,12 @@ module _ {S A : Type 0} (one : Parts → S → Outcome S A) (many : Parts → S 
         counted = r.counted;
       }
 
-  pub past_inner : (all : Parts) (start : S) (found new : List A) (xs : List Part) (i : ℕ) (d : Part) (t : Derivation) (now : S) (w : A) (after : S) → Reads many all start found (parts_of (drop i xs)) now → i < length xs → get_or xs i d ≡ Inner t → one t.parts now ≡ done w after → new ≡ found ++ w ∷ [] → Reads many all start new (parts_of (drop (i + 1) xs)) after
-  past_inner all start found new xs i d t now w after reads h e o n = subst (λ ws. Reads many all start ws ps after) (sym n) (go (subst (λ qs. Reads many all start found qs now) (at_inner xs i d t h e) reads))
+  pub past_inner :
+      (all : Parts) (start : S) (found new : List A) (xs : List Part) (i : ℕ) (d : Part) (t : Derivation) (now : S) (w : A) (after : S)
+      → Reads many all start found (parts_of (drop i xs)) now → i < length xs → get_or xs i d ≡ Inner t → one t.parts now ≡ done w after
+      → new ≡ found ++ w ∷ [] → Reads many all start new (parts_of (drop (i + 1) xs)) after
+  past_inner all start found new xs i d t now w after reads h e o n =
+      subst (λ ws. Reads many all start ws ps after) (sym n) (go (subst (λ qs. Reads many all start found qs now) (at_inner xs i d t h e) reads))
     where
       ps : Parts
       ps = parts_of (drop (i + 1) xs)
@@ -104,16 +115,22 @@ module _ {S A : Type 0} (one : Parts → S → Outcome S A) (many : Parts → S 
       go : Reads many all start found (inner t.production t.parts (parts_of (drop (i + 1) xs))) now → Reads many all start (found ++ w ∷ []) (parts_of (drop (i + 1) xs)) after
       go r = record {
         so_far =
-            r.so_far ∙ (ap (λ o. and_then o (λ ws last. done (found ++ ws) last)) (row.taken t (parts_of (drop (i + 1) xs)) now ∙ ap (λ o. and_then o (λ w after. and_then (many (parts_of (drop (i + 1) xs)) after) (λ ws last. done (w ∷ ws) last))) o)
+            r.so_far ∙ (ap (λ o. and_then o (λ ws last. done (found ++ ws) last))
+            (row.taken t (parts_of (drop (i + 1) xs)) now ∙ ap (λ o. and_then o (λ w after. and_then (many (parts_of (drop (i + 1) xs)) after) (λ ws last. done (w ∷ ws) last))) o)
             ∙ more (many (parts_of (drop (i + 1) xs)) after));
         counted = omega (arith, r.counted, length-append found (w ∷ []));
       }
 
-  pub faulted : (all : Parts) (start : S) (found : List A) (xs : List Part) (i : ℕ) (d : Part) (t : Derivation) (now : S) (f : NameFault) → Reads many all start found (parts_of (drop i xs)) now → i < length xs → get_or xs i d ≡ Inner t → one t.parts now ≡ faulty f → many all start ≡ faulty f
+  pub faulted :
+      (all : Parts) (start : S) (found : List A) (xs : List Part) (i : ℕ) (d : Part) (t : Derivation) (now : S) (f : NameFault)
+      → Reads many all start found (parts_of (drop i xs)) now → i < length xs → get_or xs i d ≡ Inner t → one t.parts now ≡ faulty f
+      → many all start ≡ faulty f
   faulted all start found xs i d t now f reads h e o = go (subst (λ qs. Reads many all start found qs now) (at_inner xs i d t h e) reads)
     where
       go : Reads many all start found (inner t.production t.parts (parts_of (drop (i + 1) xs))) now → many all start ≡ faulty f
-      go r = r.so_far ∙ ap (λ o. and_then o (λ ws last. done (found ++ ws) last)) (row.taken t (parts_of (drop (i + 1) xs)) now ∙ ap (λ o. and_then o (λ w after. and_then (many (parts_of (drop (i + 1) xs)) after) (λ ws last. done (w ∷ ws) last))) o)
+      go r =
+          r.so_far ∙ ap (λ o. and_then o (λ ws last. done (found ++ ws) last))
+          (row.taken t (parts_of (drop (i + 1) xs)) now ∙ ap (λ o. and_then o (λ w after. and_then (many (parts_of (drop (i + 1) xs)) after) (λ ws last. done (w ∷ ws) last))) o)
 
   pub finished : (all : Parts) (start : S) (found : List A) (xs : List Part) (i : ℕ) (now : S) → Reads many all start found (parts_of (drop i xs)) now → length xs ≡ i → many all start ≡ done found now
   finished all start found xs i now reads e = go (subst (λ ps. Reads many all start found ps now) (at_end xs i e) reads)
@@ -121,7 +138,9 @@ module _ {S A : Type 0} (one : Parts → S → Outcome S A) (many : Parts → S 
       go : Reads many all start found none now → many all start ≡ done found now
       go r = r.so_far ∙ (ap (λ o. and_then o (λ ws last. done (found ++ ws) last)) (row.ended now) ∙ ap (λ xs. done xs now) (append-nil found))
 
-pub found_all : {S A : Type 0} (many : Parts → S → Outcome S (List A)) (all : Parts) (start : S) (found : List A) (xs : List Part) (i : ℕ) (now : S) → Reads many all start found (parts_of (drop i xs)) now → length xs ≡ i → length found ≡ count_inner all
+pub found_all :
+    {S A : Type 0} (many : Parts → S → Outcome S (List A)) (all : Parts) (start : S) (found : List A) (xs : List Part) (i : ℕ) (now : S)
+    → Reads many all start found (parts_of (drop i xs)) now → length xs ≡ i → length found ≡ count_inner all
 found_all many all start found xs i now reads e =
     let r = subst (λ ps. Reads many all start found ps now) (at_end xs i e) reads in
     omega (arith, r.counted)

@@ -7,12 +7,11 @@ pub mod Views
 pub mod Stored
 pub mod StoredBody
 pub mod StoredDefinition
-pub mod StoredSignature
 pub mod Faults
 pub mod Outcome
 pub mod Places
 pub mod Scopes
-pub mod Ranks
+pub mod Tuples
 pub mod Blocks
 pub mod Terms
 pub mod RuleTerms

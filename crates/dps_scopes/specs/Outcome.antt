@@ -23,7 +23,7 @@ abbrev pub fault_at : {S A : Type 0} → NameCause → Lexeme → Outcome S A
 fault_at cause lexeme = faulty (record { place = place_of lexeme; cause = cause })
 
 -- A call answers this outcome, with what it changed as the second argument says: the value and what is known behind it,
--- or the first fault. For want of memory it may answer nothing.
+-- or the first fault. For out of memory it may answer nothing.
 abbrev pub Answers : {A R S : Type 0} → (R → A) → S → Result R NameRefusal → Outcome S A → Type 0
 Answers view state (Ok r) outcome = outcome ≡ done (view r) state
 Answers view state (Err (Fault fault)) outcome = outcome ≡ faulty fault

@@ -1,11 +1,12 @@
 -- What an identifier means where it stands.
-use Rattle.std.specs.Prelude.{◌≤◌, ⊤, ℕ, zero, suc, ◌+◌, ◌-◌, Bool, true, false, ◌&&◌, ◌||◌, ◌==◌, not, nat_le, if◌then◌else◌, List, [], ◌∷◌, ◌++◌, Option, Some, None, length, position, slice_get, take, codes, unwrap_or}
+use Rattle.std.specs.Prelude.{◌≤◌, ◌<◌, ⊤, ℕ, zero, suc, ◌+◌, ◌-◌, Bool, true, false, ◌&&◌, ◌||◌, ◌==◌, not, nat_le, if◌then◌else◌, List, [], ◌∷◌, ◌++◌, Option, Some}
+use Rattle.std.specs.Prelude.{None, length, position, slice_get, unwrap_or}
 use Rattle.std.specs.Str.{byte, bytes_eq}
 use Rattle.std.specs.List.{list_all}
 use Rattle.std.specs.Option.{option_map}
 use Rattle.dps_terms.specs.declared.SymKind.TheVariants.{Constructor, Destructor}
-use Rattle.dps_terms.specs.Signature.{Symbol, Name, Signature}
-use Rattle.dps_terms.specs.Names.{is_letter, is_digit, is_name_byte, tuple_name, symbol_named, name_named}
+use Rattle.dps_terms.specs.Signature.{Symbol, Signature}
+use Rattle.dps_terms.specs.Names.{is_letter, is_digit, is_name_byte, tuple_name, projection_name, symbol_named, name_named}
 use Rattle.dps_scopes.specs.declared.meaning.Projection.{Projection}
 use Rattle.dps_scopes.specs.declared.meaning.Meaning.{Meaning}
 use Rattle.dps_scopes.specs.declared.meaning.Meaning.TheVariants.{Local as a_local, Name as a_name, Function as a_function, Process as a_process, Projection as a_projection, Unknown as unknown}
@@ -42,9 +43,6 @@ begins_as_projection (p ∷ r ∷ o ∷ j ∷ u ∷ text) = is_projection_word p
 begins_as_projection _ = false
 
 -- `proj_i_n`, with 1 <= i <= n and 2 <= n <= 8
-abbrev pub projection_name : ℕ → ℕ → List ℕ
-projection_name i n = codes "proj_" ++ (byte "0" + i) ∷ byte "_" ∷ (byte "0" + n) ∷ []
-
 abbrev pub are_projection_digits : ℕ → ℕ → Bool
 are_projection_digits i n = nat_le (byte "1") i && nat_le i n && nat_le (byte "2") n && nat_le n (byte "8")
 
@@ -100,9 +98,11 @@ pub record IsProjection (projection : Projection) : Type 0 where
   pub few : projection.length ≤ 8
   pub within : projection.index ≤ projection.length
 
-abbrev pub HasLength : Meaning → Type 0
-HasLength (a_projection projection) = IsProjection projection
-HasLength _ = ⊤
+-- what a meaning names is there: a declared name in the signature, and a projection of tuples that a text may write
+abbrev pub IsMeaningOver : Signature → Meaning → Type 0
+IsMeaningOver signature (a_name n is_private) = n < length signature.names
+IsMeaningOver signature (a_projection projection) = IsProjection projection
+IsMeaningOver signature _ = ⊤
 
 -- What the declarations so far say of a text. Names, functions and processes share one table.
 abbrev pub defined : List Definition → Option ℕ → Meaning
@@ -136,11 +136,3 @@ local_or_declared signature definitions text None = projection_or_declared signa
 
 abbrev pub meaning : Signature → List Definition → Locals → List ℕ → Meaning
 meaning signature definitions scope text = local_or_declared signature definitions text (local_named scope text)
-
--- The number of a declared private name among the private ones.
-abbrev pub privates_in : List Name → ℕ
-privates_in [] = 0
-privates_in (x ∷ names) = (if x.is_private then 1 else 0) + privates_in names
-
-abbrev pub private_number : Signature → ℕ → ℕ
-private_number signature n = privates_in (take n signature.names)

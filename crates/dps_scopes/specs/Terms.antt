@@ -7,7 +7,7 @@ use Rattle.dps_lex.specs.declared.vocabulary.TokenKind.TheVariants as kinds
 use Rattle.dps_terms.specs.declared.PublicName.TheVariants.{Declared}
 use Rattle.dps_terms.specs.declared.Sym.{Sym}
 use Rattle.dps_terms.specs.Tree.{Leaf, public, private, var, Tree, leaf, app, trees}
-use Rattle.dps_terms.specs.Signature.{Signature}
+use Rattle.dps_terms.specs.Signature.{Signature, private_number}
 use Rattle.dps_syntax.specs.Tree.{Lexeme, Parts, none, token, inner}
 use Rattle.dps_scopes.specs.declared.fault.NameCause.TheVariants.{UnknownName, WrongArity, WrongKind, LargeArity}
 use Rattle.dps_scopes.specs.declared.written.Use.{Use}
@@ -18,7 +18,7 @@ use Rattle.dps_scopes.specs.declared.meaning.Meaning.{Meaning}
 use Rattle.dps_scopes.specs.declared.meaning.Meaning.TheVariants.{Local as a_local, Name as a_name, Function as a_function, Process as a_process, Projection as a_projection, Unknown as unknown}
 use Rattle.dps_scopes.specs.Faults.{place_of}
 use Rattle.dps_scopes.specs.Outcome.{Outcome, done, and_then, fault_at}
-use Rattle.dps_scopes.specs.Scopes.{Locals, most_arguments, with_tuple, meaning, private_number}
+use Rattle.dps_scopes.specs.Scopes.{Locals, most_arguments, with_tuple, meaning}
 
 abbrev pub is_kind : TokenKind → Lexeme → Bool
 is_kind kind lexeme = sameb the_type kind lexeme.kind

@@ -93,7 +93,7 @@ impl Model for Body {
     ghost size_decreases = { λ a h. deep_le-body_nodes a.node };
 }
 
-/// The makers. Those that return a `Result` fail for want of memory alone.
+/// The makers. Those that return a `Result` fail only out of memory.
 impl Body {
     /// `0`
     pub fn nil() -> Body

@@ -1,5 +1,5 @@
 //! The processes that a file defines.
-ghost use Rattle.std.specs.Prelude.{◌≡◌, ◌<◌, [], ◌∷◌, ◌++◌, length, position, slice_get, Some, None, IfOk, OnOk};
+ghost use Rattle.std.specs.Prelude.{◌≡◌, ◌<◌, [], ◌∷◌, ◌++◌, length, position, slice_get, Some, None, IfOk, OnOk, OnErr};
 ghost use Rattle.std.specs.Option.{option_map};
 ghost use Rattle.std.specs.Str.{bytes_eq};
 
@@ -82,7 +82,7 @@ impl Definitions {
         }
     }
 
-    /// One more process, with a name that no other has. It fails for want of memory alone.
+    /// One more process, with a name that no other has. It fails out of memory alone; nothing has changed then.
     pub fn push(
         &mut self,
         alloc: Global,
@@ -91,14 +91,15 @@ impl Definitions {
         body: Body,
     ) -> Result<(), NoMemory>
         requires { position (λ d. bytes_eq name.now d.name) self.old ≡ None }
-        ensures { OnOk result (self.new ≡ self.old ++ record { name = name.now; parameters = parameters; body = body } ∷ []) }
+        ensures ok { OnOk result (self.new ≡ self.old ++ record { name = name.now; parameters = parameters; body = body } ∷ []) }
+        ensures unchanged { OnErr result (self.new ≡ self.old) }
     {
         let name = String::from_str(alloc, name)?;
         self.processes.insert(name, Defined { parameters, body })?;
         Ok(())
     }
 
-    /// The definitions, in order. It fails for want of memory alone.
+    /// The definitions, in order. It fails only out of memory.
     #[tactic(auto, using(crate::proofs::Listing::for_listing))]
     pub fn into_list(self, alloc: Global) -> Result<Vec<Definition>, NoMemory>
         ensures { IfOk result (λ found. found.items ≡ self) }

@@ -41,7 +41,7 @@ pub enum NameRefusal {
     /// The first fault of its names.
     #[error("{:?} at {}:{}", .0.cause, .0.place.line, .0.place.column)]
     Fault(NameFault),
-    /// Want of memory.
+    /// Out of memory.
     #[error("no memory")]
     Memory,
 }

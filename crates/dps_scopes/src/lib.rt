@@ -15,6 +15,8 @@ pub mod rule_term;
 pub mod scope;
 pub mod signature;
 pub mod term;
+#[cfg(test)]
+mod tests;
 pub mod texts;
 mod written;
 

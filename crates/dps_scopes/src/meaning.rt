@@ -1,11 +1,11 @@
 //! What an identifier means where it stands.
 ghost use Rattle.std.specs.Prelude.{◌≡◌, IfOk, IfSome};
-ghost use Rattle.dps_scopes.specs.Scopes.{is_projection_word, are_projection_digits, begins_as_projection, projection_of, is_reserved, IsProjection, HasLength, declared_meaning, meaning, is_unknown};
+ghost use Rattle.dps_scopes.specs.Scopes.{is_projection_word, are_projection_digits, begins_as_projection, projection_of, is_reserved, IsProjection, IsMeaningOver, declared_meaning, meaning};
 ghost use Rattle.dps_scopes.specs.Blocks.{blocks};
 
 use crate::definitions::Definitions;
 use crate::scope::Scope;
-use crate::signature::Ranked;
+use crate::signature::SignatureBuilder;
 use dps_terms::{NoMemory, Sym, is_identifier};
 
 /// `proj_i_n`: the i-th member of a tuple of length n.
@@ -31,10 +31,10 @@ pub enum Meaning {
 }
 
 /// Whether the text begins with `proj_`.
-fn begins_as_projection(text: &[u8]) -> bool
+pub fn begins_as_projection(text: &str) -> bool
     ensures { result ≡ begins_as_projection text.now }
 {
-    match text {
+    match text.as_bytes() {
         [p, r, o, j, u, ..] => is_projection_word(*p, *r, *o, *j, *u),
         _ => false,
     }
@@ -51,7 +51,7 @@ fn is_projection_word(p: u8, r: u8, o: u8, j: u8, u: u8) -> bool
 pub fn is_reserved(text: &str) -> bool
     ensures { result ≡ is_reserved text.now }
 {
-    if begins_as_projection(text.as_bytes()) {
+    if begins_as_projection(text) {
         return true;
     }
     !is_identifier(text)
@@ -88,11 +88,15 @@ fn are_projection_digits(index: u8, length: u8) -> bool
 
 /// What the declarations so far say of a text, which is no local and no projection there. Names, functions and processes
 /// share one table.
-pub fn declared_meaning(definitions: &Definitions, signature: &Ranked, text: &str) -> Meaning
-    ensures length { HasLength result }
+pub fn declared_meaning(
+    definitions: &Definitions,
+    signature: &SignatureBuilder,
+    text: &str,
+) -> Meaning
+    ensures over { IsMeaningOver signature.now result }
     ensures found { result ≡ declared_meaning signature.now definitions.now text.now }
 {
-    if begins_as_projection(text.as_bytes()) {
+    if begins_as_projection(text) {
         return Meaning::Unknown;
     }
     let declared = signature.signature();
@@ -113,10 +117,10 @@ pub fn declared_meaning(definitions: &Definitions, signature: &Ranked, text: &st
 pub fn meaning_of(
     definitions: &Definitions,
     scope: &Scope<'_>,
-    signature: &Ranked,
+    signature: &SignatureBuilder,
     text: &str,
 ) -> Result<Meaning, NoMemory>
-    ensures length { IfOk result HasLength }
+    ensures over { IfOk result (IsMeaningOver signature.now) }
     ensures found { IfOk result (λ found. found ≡ meaning signature.now definitions.now (blocks scope.now) text.now) }
 {
     if let Some(number) = scope.find(text)? {
@@ -126,11 +130,4 @@ pub fn meaning_of(
         Some(projection) => Ok(Meaning::Projection(projection)),
         None => Ok(declared_meaning(definitions, signature, text)),
     }
-}
-
-/// Whether nothing is known of an identifier.
-pub fn is_unknown(meaning: Meaning) -> bool
-    ensures { result ≡ is_unknown meaning }
-{
-    matches!(meaning, Meaning::Unknown)
 }

@@ -1,17 +1,18 @@
 //! Terms of rewrite rules. An identifier that is not declared is a variable.
-ghost use Rattle.std.specs.Prelude.{◌≡◌, ◌≤◌, vec_len, IfOk, OnOk};
+ghost use Rattle.std.specs.Prelude.{◌≡◌, ◌≤◌, false, vec_len, IfOk, OnOk};
 ghost use Rattle.dps_terms.specs.Tree.{leaf, var};
 ghost use Rattle.dps_syntax.specs.Parts.{parts_of};
 ghost use Rattle.dps_scopes.specs.Outcome.{Answers};
 ghost use Rattle.dps_scopes.specs.Terms.{count_inner};
-ghost use Rattle.dps_scopes.specs.Scopes.{declared_meaning};
+ghost use Rattle.dps_terms.specs.Names.{IsDeclaredText};
+ghost use Rattle.dps_scopes.specs.Scopes.{begins_as_projection, declared_meaning};
 ghost use Rattle.dps_scopes.specs.RuleTerms.{variable_number, with_variable, identifier_in_rule, first_tree, tuple_in_rule, has_more, rule_term, rule_terms, declared_root, root_as};
 
 use crate::definitions::Definitions;
 use crate::fault::fault_at;
 use crate::meaning::{Meaning, declared_meaning, is_reserved};
 use crate::parts::{count_inner, has_more, is_kind};
-use crate::signature::{Ranked, add_symbol, tuple_symbol};
+use crate::signature::{SignatureBuilder, add_symbol, tuple_symbol};
 use crate::term::MOST_ARGUMENTS;
 use crate::texts::Texts;
 use crate::{NameCause, NameRefusal};
@@ -41,7 +42,7 @@ fn rule_term(
     alloc: Global,
     definitions: &Definitions,
     parts: &[Part],
-    signature: &mut Ranked,
+    signature: &mut SignatureBuilder,
     variables: &mut Texts,
 ) -> Result<Term, NameRefusal>
     ensures { Answers (λ t. t) (record { signature = signature.new; variables = variables.new }) result (rule_term definitions.now (parts_of parts.now) (record { signature = signature.old; variables = variables.old })) }
@@ -72,7 +73,7 @@ fn identified(
     definitions: &Definitions,
     leaf: &Leaf,
     arguments: &[Part],
-    signature: &mut Ranked,
+    signature: &mut SignatureBuilder,
     variables: &mut Texts,
 ) -> Result<Term, NameRefusal>
     ensures { Answers (λ t. t) (record { signature = signature.new; variables = variables.new }) result (identifier_in_rule leaf.now (has_more (parts_of arguments.now)) (count_inner (parts_of arguments.now)) (rule_terms definitions.now (parts_of arguments.now)) (record { signature = signature.old; variables = variables.old }) (declared_meaning signature.old definitions.now leaf.now.text)) }
@@ -112,7 +113,7 @@ fn bracketed(
     definitions: &Definitions,
     leaf: &Leaf,
     members: &[Part],
-    signature: &mut Ranked,
+    signature: &mut SignatureBuilder,
     variables: &mut Texts,
 ) -> Result<Term, NameRefusal>
     ensures { Answers (λ t. t) (record { signature = signature.new; variables = variables.new }) result (tuple_in_rule (count_inner (parts_of members.now)) (rule_terms definitions.now (parts_of members.now)) (record { signature = signature.old; variables = variables.old }) leaf.now) }
@@ -141,14 +142,14 @@ fn first_of(alloc: Global, terms: Vec<Term>) -> Result<Term, NoMemory>
 }
 
 /// The terms in a row, between signs. A variable that is new is added to the variables, and the symbols of a tuple that is
-/// new to the signature. The error is the first fault of their names, or want of memory.
+/// new to the signature. The error is the first fault of their names, or out of memory.
 #[cycle(rule_term)]
 #[tactic(auto, using(crate::proofs::Rows::for_rows))]
 pub fn rule_terms(
     alloc: Global,
     definitions: &Definitions,
     parts: &[Part],
-    signature: &mut Ranked,
+    signature: &mut SignatureBuilder,
     variables: &mut Texts,
 ) -> Result<Vec<Term>, NameRefusal>
     ensures count { IfOk result (λ v. vec_len v ≡ count_inner (parts_of parts.now)) }
@@ -167,12 +168,12 @@ pub fn rule_terms(
 }
 
 /// The function at the root of a left side, over so many arguments. Where it is not declared, it is declared here, as
-/// a destructor. The error is its fault, or want of memory.
+/// a destructor. The error is its fault, or out of memory.
 pub fn root(
     definitions: &Definitions,
     leaf: &Leaf,
     count: usize,
-    signature: &mut Ranked,
+    signature: &mut SignatureBuilder,
 ) -> Result<Sym, NameRefusal>
     ensures few { IfOk result (λ _. count ≤ 8) }
     ensures found { Answers (λ f. f) signature.new result (root_as definitions.now leaf.now count signature.old (declared_meaning signature.old definitions.now leaf.now.text)) }
@@ -188,7 +189,7 @@ pub fn root(
         Meaning::Name(_, _) => fault_at(NameCause::WrongArity, leaf),
         Meaning::Process(_, _) => fault_at(NameCause::WrongKind, leaf),
         Meaning::Local(_) | Meaning::Projection(_) | Meaning::Unknown => {
-            declared_root(definitions, leaf, count, signature)
+            declared_root(leaf, count, signature)
         }
     }
 }
@@ -196,11 +197,11 @@ pub fn root(
 /// A root that its rule declares.
 #[tactic(auto, using(crate::proofs::Identifiers::for_identifiers))]
 fn declared_root(
-    definitions: &Definitions,
     leaf: &Leaf,
     count: usize,
-    signature: &mut Ranked,
+    signature: &mut SignatureBuilder,
 ) -> Result<Sym, NameRefusal>
+    requires { begins_as_projection leaf.now.text ≡ false → ¬ IsDeclaredText signature.old leaf.now.text }
     ensures few { IfOk result (λ _. count ≤ 8) }
     ensures found { Answers (λ f. f) signature.new result (declared_root leaf.now count signature.old) }
 {

@@ -1,31 +1,31 @@
 //! The signature that grows, and what is added to it.
-ghost use Rattle.std.specs.Prelude.{◌≡◌, ◌≤◌, ◌<◌, ◌^◌, ◌+◌, ◌++◌, [], length, string_bytes, IsTrue, IfOk, IfErr, OnOk};
-ghost use Rattle.dps_terms.specs.Names.{IsIdentifier, IsSymbolText, with_symbol, with_name, tuple_name};
-ghost use Rattle.dps_scopes.specs.Scopes.{projection_name, projections_from, with_tuple, private_number};
+ghost use Rattle.std.specs.Prelude.{◌≡◌, ◌≤◌, ◌<◌, ◌^◌, ◌+◌, ◌++◌, [], ℕ, false, length, None, IsTrue, IfOk, IfErr, OnOk, OnErr};
+ghost use Rattle.dps_terms.specs.Names.{IsDeclaredText, IsSymbolText, with_symbol, with_name, tuple_name, projection_name, symbol_named};
+ghost use Rattle.dps_terms.specs.Signature.{Signature as SignatureValue};
+ghost use Rattle.dps_scopes.specs.Scopes.{is_reserved, projections_from, tuple_at, with_tuple};
+ghost use Rattle.dps_scopes.specs.Tuples.{KeepsTuples, AreUndeclared, HasSymbolsOf};
 
 use crate::NameRefusal;
-use dps_terms::{NoMemory, Signature, Sym, SymKind};
+use dps_terms::{AddRefusal, NoMemory, Signature, Sym, SymKind, projection_text, tuple_text};
 use std::alloc::{AllocError, Global};
 use std::marker::Model;
 
 /// A signature has fewer symbols and names than 2^24, each. (A file has at most 2^20 tokens, so it declares fewer.)
 const MOST: u32 = 1 << 24;
 
-/// A signature, with the rank of each name: how many private names stand before it.
+/// A signature to which the declarations of a file are added, one by one.
 ///
-/// Contracts see the signature alone. Behind an error of what adds to it they say nothing of it.
+/// The projections of tuples come with the tuples' symbol, and with nothing else. After a refusal of what adds to it, it
+/// is as it was.
 #[derive(Drop)]
-pub struct Ranked {
+pub struct SignatureBuilder {
     signature: Signature,
-    ranks: Vec<u64>,
-    /// How many names are private.
-    privates: u64,
 }
 
-impl Model for Ranked {
+impl Model for SignatureBuilder {
     ghost use Rattle.dps_terms.specs.Signature.{Signature};
-    ghost use Rattle.dps_scopes.specs.StoredSignature.{signature_code};
-    ghost use Rattle.dps_scopes.specs.Ranks.{AreRanked};
+    ghost use Rattle.dps_terms.specs.StoredSignature.{signature_code};
+    ghost use Rattle.dps_scopes.specs.Tuples.{KeepsTuples};
 
     ghost Value = { Signature };
 
@@ -33,18 +33,17 @@ impl Model for Ranked {
 
     ghost view = { λ a. a.signature };
 
-    ghost invariant = { λ a. AreRanked a.signature.names a.ranks.items a.privates };
+    ghost invariant = { λ a. KeepsTuples a.signature };
 }
 
-impl Ranked {
+impl SignatureBuilder {
     /// Nothing is declared. It takes no memory.
-    pub fn new(alloc: Global) -> Ranked
+    #[tactic(auto, using(crate::proofs::Undeclared::nothing_declared))]
+    pub fn new(alloc: Global) -> SignatureBuilder
         ensures { result ≡ record { symbols = []; names = [] } }
     {
-        Ranked {
+        SignatureBuilder {
             signature: Signature::new(alloc),
-            ranks: Vec::new(alloc),
-            privates: 0,
         }
     }
 
@@ -61,137 +60,171 @@ impl Ranked {
     {
         self.signature
     }
-
-    /// Whether one more symbol and one more name may be added.
-    fn has_room(&self) -> bool
-        ensures symbols { IsTrue result → length self.now.symbols < 2 ^ 24 }
-        ensures names { IsTrue result → length self.now.names < 2 ^ 24 }
-    {
-        self.signature.symbol_count() < MOST && self.signature.name_count() < MOST
-    }
 }
 
-/// One more symbol, with a text that no other symbol and no name has, and its number. The text is an identifier, or that of
-/// a tuple of this arity.
+/// Whether so many more symbols, and one more name, may be added.
+fn has_room(signature: &Signature, more: u32) -> bool
+    requires { more ≤ 9 }
+    ensures symbols { IsTrue result → length signature.now.symbols + more ≤ 2 ^ 24 }
+    ensures names { IsTrue result → length signature.now.names < 2 ^ 24 }
+{
+    signature.symbol_count() <= MOST - more && signature.name_count() < MOST
+}
+
+/// One more symbol, with a text that a declaration may have and nothing has, and its number.
 ///
-/// The error is `Memory`: for want of memory, where the text is taken, or where the signature is full.
+/// The error is `Memory`: out of memory, or the signature is full.
 pub fn add_symbol(
-    signature: &mut Ranked,
+    signature: &mut SignatureBuilder,
     text: &str,
     kind: SymKind,
     arity: u32,
 ) -> Result<Sym, NameRefusal>
-    requires spelled { IsSymbolText text.now kind arity }
+    requires free { is_reserved text.now ≡ false }
+    requires fresh { ¬ IsDeclaredText signature.old text.now }
     ensures number { IfOk result (λ s. s.number ≡ length signature.old.symbols) }
     ensures ok { OnOk result (signature.new ≡ with_symbol signature.old (record { name = text.now; kind = kind; arity = arity })) }
-    ensures err { IfErr result (λ refusal. refusal ≡ NameRefusal.Memory) }
+    ensures unchanged { OnErr result (signature.new ≡ signature.old) }
+    ensures memory { IfErr result (λ refusal. refusal ≡ NameRefusal.Memory) }
 {
-    if !signature.has_room() {
+    if !has_room(&signature.signature, 1) {
         return Err(NameRefusal::Memory);
     }
-    match signature.signature.add_symbol(text, kind, arity) {
+    match push_symbol(&mut signature.signature, text, kind, arity) {
         Ok(sym) => Ok(sym),
         Err(_) => Err(NameRefusal::Memory),
     }
 }
 
-/// One more name, with a text that no symbol and no other name has. The text is an identifier.
+/// One more name, with a text that a declaration may have and nothing has.
 ///
-/// The error is `Memory`: for want of memory, where the text is taken, or where the signature is full.
-pub fn add_name(signature: &mut Ranked, text: &str, private: bool) -> Result<(), NameRefusal>
-    requires spelled { IsIdentifier text.now }
+/// The error is `Memory`: out of memory, or the signature is full.
+pub fn add_name(
+    signature: &mut SignatureBuilder,
+    text: &str,
+    private: bool,
+) -> Result<(), NameRefusal>
+    requires free { is_reserved text.now ≡ false }
+    requires fresh { ¬ IsDeclaredText signature.old text.now }
     ensures ok { OnOk result (signature.new ≡ with_name signature.old (record { name = text.now; is_private = private })) }
-    ensures err { IfErr result (λ refusal. refusal ≡ NameRefusal.Memory) }
+    ensures unchanged { OnErr result (signature.new ≡ signature.old) }
+    ensures memory { IfErr result (λ refusal. refusal ≡ NameRefusal.Memory) }
 {
-    if !signature.has_room() {
+    if !has_room(&signature.signature, 1) {
         return Err(NameRefusal::Memory);
     }
-    let rank = signature.privates;
-    signature.ranks.push(rank)?;
     match signature.signature.add_name(text, private) {
-        Ok(_) => {
-            signature.privates = rank + u64::from(private);
-            Ok(())
-        }
-        Err(_) => {
-            signature.ranks.pop();
-            Err(NameRefusal::Memory)
-        }
+        Ok(_) => Ok(()),
+        Err(AddRefusal::Twice) => unreachable!(),
+        Err(AddRefusal::Memory) => Err(NameRefusal::Memory),
     }
 }
 
 /// The symbol of the tuples of this length, which is 2 to 8. Where it isn't there yet, it is added with its projections.
-/// The error is `Memory`, as where a symbol is added.
-pub fn tuple_symbol(alloc: Global, signature: &mut Ranked, length: u32) -> Result<Sym, NameRefusal>
+///
+/// The error is `Memory`: out of memory, or the signature is full.
+pub fn tuple_symbol(
+    alloc: Global,
+    signature: &mut SignatureBuilder,
+    length: u32,
+) -> Result<Sym, NameRefusal>
     requires some { 2 ≤ length }
     requires few { length ≤ 8 }
     ensures number { IfOk result (λ s. s.number ≡ (with_tuple signature.old length).symbol) }
     ensures ok { OnOk result (signature.new ≡ (with_tuple signature.old length).signature) }
-    ensures err { IfErr result (λ refusal. refusal ≡ NameRefusal.Memory) }
+    ensures unchanged { OnErr result (signature.new ≡ signature.old) }
+    ensures memory { IfErr result (λ refusal. refusal ≡ NameRefusal.Memory) }
 {
-    let name = tuple_text(length);
-    match signature.signature.symbol(name) {
+    match signature.signature.symbol(tuple_text(length)) {
         Some(sym) => Ok(sym),
-        None => {
-            let sym = add_symbol(signature, name, SymKind::Constructor, length)?;
-            add_projections(alloc, signature, length)?;
-            Ok(sym)
+        None => match add_tuple(alloc, &mut signature.signature, length) {
+            Ok(sym) => Ok(sym),
+            Err(_) => Err(NameRefusal::Memory),
+        },
+    }
+}
+
+/// Adds the symbol of the tuples of so many members and their projections, all of them or none.
+fn add_tuple(alloc: Global, signature: &mut Signature, members: u32) -> Result<Sym, NoMemory>
+    requires some { 2 ≤ members }
+    requires few { members ≤ 8 }
+    requires fresh { AreUndeclared signature.old members }
+    ensures number { IfOk result (λ s. s.number ≡ length signature.old.symbols) }
+    ensures ok { OnOk result (signature.new ≡ (tuple_at signature.old members None).signature) }
+    ensures unchanged { OnErr result (signature.new ≡ signature.old) }
+{
+    if !has_room(signature, members + 1) {
+        return Err(AllocError);
+    }
+    let count = signature.symbol_count();
+    match push_tuple(alloc, signature, members) {
+        Ok(sym) => Ok(sym),
+        Err(error) => {
+            signature.truncate_symbols(count);
+            Err(error)
         }
     }
 }
 
-/// The projections of the tuples of this length.
-#[tactic(auto, using(crate::proofs::Signatures::for_projections))]
-fn add_projections(alloc: Global, signature: &mut Ranked, length: u32) -> Result<(), NameRefusal>
-    requires some { 2 ≤ length }
-    requires few { length ≤ 8 }
-    ensures ok { OnOk result (signature.new ≡ record { symbols = signature.old.symbols ++ projections_from length 1 length; names = signature.old.names }) }
-    ensures err { IfErr result (λ refusal. refusal ≡ NameRefusal.Memory) }
+/// Adds them. Where memory runs out, it leaves those that it added.
+fn push_tuple(alloc: Global, signature: &mut Signature, members: u32) -> Result<Sym, NoMemory>
+    requires some { 2 ≤ members }
+    requires few { members ≤ 8 }
+    requires room { length signature.old.symbols + members + 1 ≤ 2 ^ 24 }
+    requires few_names { length signature.old.names < 2 ^ 24 }
+    requires fresh { AreUndeclared signature.old members }
+    ensures number { IfOk result (λ s. s.number ≡ length signature.old.symbols) }
+    ensures ok { OnOk result (signature.new ≡ (tuple_at signature.old members None).signature) }
+    ensures grown { OnErr result (HasSymbolsOf signature.old signature.new) }
 {
-    for index in 1..length + 1 {
-        let text = projection_text(alloc, index, length)?;
-        add_symbol(signature, text.as_str(), SymKind::Destructor, 1)?;
+    let sym = push_symbol(
+        signature,
+        tuple_text(members),
+        SymKind::Constructor,
+        members,
+    )?;
+    push_projections(alloc, signature, members)?;
+    Ok(sym)
+}
+
+/// Adds the projections of the tuples of so many members. Where memory runs out, it leaves those that it added.
+#[tactic(auto, using(crate::proofs::Signatures::for_projections))]
+fn push_projections(alloc: Global, signature: &mut Signature, members: u32) -> Result<(), NoMemory>
+    requires some { 2 ≤ members }
+    requires few { members ≤ 8 }
+    requires room { length signature.old.symbols + members ≤ 2 ^ 24 }
+    requires few_names { length signature.old.names < 2 ^ 24 }
+    requires fresh { (i : ℕ) → ¬ IsDeclaredText signature.old (projection_name i members) }
+    ensures ok { OnOk result (signature.new ≡ record { symbols = signature.old.symbols ++ projections_from members 1 members; names = signature.old.names }) }
+    ensures grown { OnErr result (HasSymbolsOf signature.old signature.new) }
+{
+    for index in 1..members + 1 {
+        let text = projection_text(alloc, index, members)?;
+        push_symbol(signature, text.as_str(), SymKind::Destructor, 1)?;
     }
     Ok(())
 }
 
-/// `(n)`
-fn tuple_text(length: u32) -> &'static str
-    requires some { 2 ≤ length }
-    requires few { length ≤ 8 }
-    ensures { result.now ≡ tuple_name length }
+/// One more symbol, with a text that nothing has.
+fn push_symbol(
+    signature: &mut Signature,
+    text: &str,
+    kind: SymKind,
+    arity: u32,
+) -> Result<Sym, NoMemory>
+    requires few_symbols { length signature.old.symbols < 2 ^ 24 }
+    requires few_names { length signature.old.names < 2 ^ 24 }
+    requires spelled { IsSymbolText text.now kind arity }
+    requires fresh { ¬ IsDeclaredText signature.old text.now }
+    ensures number { IfOk result (λ s. s.number ≡ length signature.old.symbols) }
+    ensures ok { OnOk result (signature.new ≡ with_symbol signature.old (record { name = text.now; kind = kind; arity = arity })) }
+    ensures unchanged { OnErr result (signature.new ≡ signature.old) }
 {
-    match length {
-        2 => "(2)",
-        3 => "(3)",
-        4 => "(4)",
-        5 => "(5)",
-        6 => "(6)",
-        7 => "(7)",
-        8 => "(8)",
-        _ => unreachable!(),
+    match signature.add_symbol(text, kind, arity) {
+        Ok(sym) => Ok(sym),
+        Err(AddRefusal::Twice) => unreachable!(),
+        Err(AddRefusal::Memory) => Err(AllocError),
     }
-}
-
-/// `proj_i_n`
-fn projection_text(alloc: Global, index: u32, length: u32) -> Result<String, NoMemory>
-    requires first { index ≤ 8 }
-    requires few { length ≤ 8 }
-    ensures { IfOk result (λ text. string_bytes text ≡ projection_name index length) }
-{
-    let mut text = String::from_str(alloc, "proj_")?;
-    text.push(digit(index))?;
-    text.push('_')?;
-    text.push(digit(length))?;
-    Ok(text)
-}
-
-/// The digit of a number below 10.
-fn digit(number: u32) -> char
-    requires { number < 10 }
-    ensures { result ≡ 48 + number }
-{
-    char::from(b'0' + number as u8)
 }
 
 /// The projection of tuples with this index, which is counted from 1. (A `u32` holds the number, since the tables of symbols
@@ -202,15 +235,5 @@ pub fn projection_symbol(tuple: Sym, index: u32) -> Result<Sym, NoMemory>
     match tuple.number.checked_add(index) {
         Some(number) => Ok(Sym { number }),
         None => Err(AllocError),
-    }
-}
-
-/// The number of a declared private name among the private ones.
-pub(crate) fn private_number(signature: &Ranked, number: u32) -> u64
-    ensures { result ≡ private_number signature.now number }
-{
-    match signature.ranks.get(number as usize) {
-        Some(rank) => *rank,
-        None => signature.privates,
     }
 }

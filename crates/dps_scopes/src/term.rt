@@ -1,18 +1,18 @@
 //! Terms of processes. Each function reads the parts of one production.
-ghost use Rattle.std.specs.Prelude.{◌≡◌, ◌≤◌, ◌+◌, [], ◌∷◌, vec_len, IfOk, IfErr, OnOk};
+ghost use Rattle.std.specs.Prelude.{◌≡◌, ◌≤◌, ◌<◌, ◌+◌, [], ◌∷◌, length, vec_len, IfOk, IfErr, OnOk};
 ghost use Rattle.dps_terms.specs.Tree.{private, var};
 ghost use Rattle.dps_syntax.specs.Parts.{parts_of};
 ghost use Rattle.dps_scopes.specs.Outcome.{Answers};
 ghost use Rattle.dps_scopes.specs.Blocks.{blocks};
 ghost use Rattle.dps_scopes.specs.Terms.{term, terms, count_inner, written, applied, name_written, identifier_as, tuple_of, identifier, the_first};
-ghost use Rattle.dps_scopes.specs.Scopes.{HasLength};
+ghost use Rattle.dps_scopes.specs.Scopes.{IsMeaningOver};
 
 use crate::definitions::Definitions;
 use crate::fault::{fault_at, place_of};
 use crate::meaning::{Meaning, meaning_of};
 use crate::parts::{count_inner, is_kind};
 use crate::scope::Scope;
-use crate::signature::{Ranked, private_number, projection_symbol, tuple_symbol};
+use crate::signature::{SignatureBuilder, projection_symbol, tuple_symbol};
 use crate::{NameCause, NameRefusal, Use, Written};
 use dps_lex::TokenKind;
 use dps_syntax::{Leaf, Part};
@@ -45,16 +45,17 @@ fn nothing_written(alloc: Global) -> Result<Written, NoMemory>
 /// A declared name. A private one is written as its number among the private ones.
 fn name_written(
     alloc: Global,
-    signature: &Ranked,
+    signature: &SignatureBuilder,
     leaf: &Leaf,
     number: u32,
     private: bool,
 ) -> Result<Written, NoMemory>
+    requires { number < length signature.now.names }
     ensures { IfOk result (λ w. w ≡ name_written signature.now leaf.now number private) }
 {
     if private {
         Ok(Written {
-            tree: Term::private(alloc, private_number(signature, number))?,
+            tree: Term::private(alloc, signature.signature().private_number(number))?,
             uses: vec![in alloc; Use::PrivateName(number, place_of(leaf))]?,
         })
     } else {
@@ -87,14 +88,14 @@ fn applied(alloc: Global, sym: Sym, arguments: Vec<Written>) -> Result<Written, 
 /// What a term says: Term = id [ "(" [ Term { "," Term } ] ")" ] | "(" Term { "," Term } ")"
 ///
 /// The symbols of a tuple or projection that is new are added to the signature. The error is the first fault of the term's
-/// names, or want of memory.
+/// names, or out of memory.
 #[cycle(term)]
 pub fn term(
     alloc: Global,
     definitions: &Definitions,
     scope: &Scope<'_>,
     parts: &[Part],
-    signature: &mut Ranked,
+    signature: &mut SignatureBuilder,
 ) -> Result<Written, NameRefusal>
     ensures { Answers (λ w. w) signature.new result (term definitions.now (blocks scope.now) (parts_of parts.now) signature.old) }
 {
@@ -123,9 +124,9 @@ fn identified(
     leaf: &Leaf,
     arguments: &[Part],
     meaning: Meaning,
-    signature: &mut Ranked,
+    signature: &mut SignatureBuilder,
 ) -> Result<Written, NameRefusal>
-    requires { HasLength meaning }
+    requires { IsMeaningOver signature.old meaning }
     ensures { Answers (λ w. w) signature.new result (identifier_as leaf.now (count_inner (parts_of arguments.now)) (terms definitions.now (blocks scope.now) (parts_of arguments.now)) signature.old meaning) }
 {
     let count = count_inner(arguments);
@@ -171,7 +172,7 @@ fn bracketed(
     scope: &Scope<'_>,
     leaf: &Leaf,
     members: &[Part],
-    signature: &mut Ranked,
+    signature: &mut SignatureBuilder,
 ) -> Result<Written, NameRefusal>
     ensures { Answers (λ w. w) signature.new result (tuple_of (count_inner (parts_of members.now)) (terms definitions.now (blocks scope.now) (parts_of members.now)) signature.old leaf.now) }
 {
@@ -198,7 +199,7 @@ fn first_of(alloc: Global, terms: Vec<Written>) -> Result<Written, NoMemory>
     }
 }
 
-/// The terms in a row, between signs. The error is the first fault of their names, or want of memory.
+/// The terms in a row, between signs. The error is the first fault of their names, or out of memory.
 #[cycle(term)]
 #[tactic(auto, using(crate::proofs::Rows::for_rows))]
 pub fn terms(
@@ -206,7 +207,7 @@ pub fn terms(
     definitions: &Definitions,
     scope: &Scope<'_>,
     parts: &[Part],
-    signature: &mut Ranked,
+    signature: &mut SignatureBuilder,
 ) -> Result<Vec<Written>, NameRefusal>
     ensures count { IfOk result (λ v. vec_len v ≡ count_inner (parts_of parts.now)) }
     ensures found { Answers (λ v. v.items) signature.new result (terms definitions.now (blocks scope.now) (parts_of parts.now) signature.old) }
@@ -222,13 +223,13 @@ pub fn terms(
     Ok(found)
 }
 
-/// An identifier alone, as in a channel's place. The error is its fault, or want of memory.
+/// An identifier alone, as in a channel's place. The error is its fault, or out of memory.
 pub fn identifier(
     alloc: Global,
     definitions: &Definitions,
     scope: &Scope<'_>,
     leaf: &Leaf,
-    signature: &mut Ranked,
+    signature: &mut SignatureBuilder,
 ) -> Result<Written, NameRefusal>
     ensures { Answers (λ w. w) signature.new result (identifier definitions.now (blocks scope.now) leaf.now signature.old) }
 {

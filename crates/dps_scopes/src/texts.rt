@@ -61,9 +61,10 @@ impl Texts {
         self.texts.len()
     }
 
-    /// One more text, with the next number. It fails for want of memory alone.
+    /// One more text, with the next number. It fails out of memory alone; nothing has changed then.
     pub fn push(&mut self, alloc: Global, text: &str) -> Result<(), NoMemory>
-        ensures { OnOk result (self.new ≡ self.old ++ text.now ∷ []) }
+        ensures ok { OnOk result (self.new ≡ self.old ++ text.now ∷ []) }
+        ensures unchanged { OnErr result (self.new ≡ self.old) }
     {
         let place = self.texts.len();
         let kept = String::from_str(alloc, text)?;

@@ -1,4 +1,4 @@
-use Rattle.std.proofs.Common.{◌≡◌, arith, subst, rules, Err}
+use Rattle.std.proofs.Common.{◌≡◌, ◌+◌, ◌-◌, arith, subst, rules, Err}
 use Rattle.dps_terms.specs.Tree.{Tree}
 use Rattle.dps_terms.specs.Seen.{seen}
 use Rattle.dps_terms.specs.Views.{arguments}
@@ -6,41 +6,43 @@ use Rattle.dps_elab.specs.Expansion.{value_at, tree_in}
 use Rattle.dps_elab.specs.Locals.{in_frame, values}
 use Rattle.dps_elab.specs.Writing.{IsTooLargeTerm}
 use Rattle.dps_elab.specs.declared.stop.Stop.TheVariants.{TooLarge}
-use Rattle.dps_elab.proofs.Terms.{built_app, large_app, built_more, large_more}
+use Rattle.dps_elab.proofs.Terms.{put_app, large_app, put_more, large_more}
 use Rattle.dps_elab.proofs.build.+build.Goals as goal
 
-pub build-returns-in_err-arguments-in-App-clause-large :
-    goal.build-returns-in_err-arguments-in-App-clause-large
-build-returns-in_err-arguments-in-App-clause-large t c =
+pub put_arguments-loop-left-preserved : goal.put_arguments-loop-left-preserved
+put_arguments-loop-left-preserved t c =
+    let back : c.loop-left.left - 1 + 1 ≡ c.loop-left.left = omega arith in
+    record {
+      within = omega (arith, c.loop-left.invariant.within);
+      put = put_more (tree_in (in_frame (values c.args.stack.now) c.args.frame)) c.args.room.now c.loop-left.room c.put_term.new.room c.args.depth (arguments (seen c.args.term))
+          c.args.built.now c.loop-left.built c.put_term.new.built (c.loop-left.left - 1) (seen c.argument.result) c.argument.ensures (rw back c.loop-left.invariant.put) c.in_ok-put_term.ensures.ok;
+    }
+
+pub put_arguments-returns-in_err-put_term-clause-large : goal.put_arguments-returns-in_err-put_term-clause-large
+put_arguments-returns-in_err-put_term-clause-large t c =
     λ e.
-    let k : c.build_arguments.result ≡ Err TooLarge = search rules in
-    large_app c.args.room.now c.take_node.new.room c.args.depth c.in_ok-depth-in-App.depth (in_frame (values c.args.stack.now) c.args.frame)
-    (seen c.args.term) c.in-App.sym (search rules) (search rules) (search rules) (c.build_arguments.ensures.large k)
+    let back : c.loop-left.left - 1 + 1 ≡ c.loop-left.left = omega arith in
+    let k : c.put_term.result ≡ Err TooLarge = search rules in
+    large_more (tree_in (in_frame (values c.args.stack.now) c.args.frame)) c.args.room.now c.loop-left.room c.args.depth (arguments (seen c.args.term))
+    c.args.built.now c.loop-left.built (c.loop-left.left - 1) (seen c.argument.result) (rw back c.loop-left.invariant.put) c.argument.ensures (c.put_term.ensures.large k)
 
-pub build-returns-in_ok-built-in-App-clause-ok : goal.build-returns-in_ok-built-in-App-clause-ok
-build-returns-in_ok-built-in-App-clause-ok t c =
-    built_app c.args.room.now c.take_node.new.room c.build_arguments.new.room c.args.depth c.in_ok-depth-in-App.depth
-    (in_frame (values c.args.stack.now) c.args.frame) (seen c.args.term) c.in_ok-built-in-App.built c.in-App.sym c.in_ok-arguments-in-App.arguments.items
-    (search rules) (search rules) (search rules) (search rules) (search rules)
-
-pub build_arguments-returns-in_err-argument-clause-large :
-    goal.build_arguments-returns-in_err-argument-clause-large
-build_arguments-returns-in_err-argument-clause-large t c =
+pub put_local-returns-in-Argument-clause-large : goal.put_local-returns-in-Argument-clause-large
+put_local-returns-in-Argument-clause-large t c =
     λ e.
-    let k : c.build.result ≡ Err TooLarge = search rules in
-    large_more (tree_in (in_frame (values c.args.stack.now) c.args.frame)) c.args.room.now c.loop-index.room c.args.depth (arguments (seen c.args.term))
-    c.loop-index.arguments.items c.loop-index.index (seen c.argument.result) c.loop-index.invariant c.argument.ensures (c.build.ensures.large k)
-
-pub build_arguments-loop-index-preserved : goal.build_arguments-loop-index-preserved
-build_arguments-loop-index-preserved t c =
-    built_more (tree_in (in_frame (values c.args.stack.now) c.args.frame)) c.args.room.now c.loop-index.room c.build.new.room c.args.depth (arguments (seen c.args.term))
-    c.loop-index.arguments.items c.push.new.self.items c.loop-index.index (seen c.argument.result) c.in_ok-argument.argument
-    c.loop-index.invariant c.argument.ensures (omega arith) (search rules) (search rules)
-
-pub build_local-returns-in-Argument-clause-large :
-    goal.build_local-returns-in-Argument-clause-large
-build_local-returns-in-Argument-clause-large t c =
-    λ e.
-    let same : tree_in (in_frame (values c.args.stack.now) c.in-Argument.outer) (seen c.whole.result) ≡ (value_at (in_frame (values c.args.stack.now) c.args.frame) c.args.number).tree = search rules in
+    let same : tree_in (in_frame (values c.args.stack.now) c.in-Argument.outer) (seen c.whole.result) ≡ (value_at (in_frame (values c.args.stack.now) c.args.frame) c.args.number).tree = search
+    rules in
     let P : Tree → Type 0 = λ u. IsTooLargeTerm c.args.room.now c.args.depth u in
-    subst P same (c.build.ensures.large e)
+    subst P same (c.put_term.ensures.large e)
+
+pub put_term-returns-in_err-put_arguments-in-App-clause-large : goal.put_term-returns-in_err-put_arguments-in-App-clause-large
+put_term-returns-in_err-put_arguments-in-App-clause-large t c =
+    λ e.
+    let k : c.put_arguments.result ≡ Err TooLarge = search rules in
+    large_app c.args.room.now c.take_node.new.room c.args.depth c.in_ok-depth-in-App.depth (in_frame (values c.args.stack.now) c.args.frame)
+    (seen c.args.term) c.in-App.sym (search rules) (search rules) (search rules) (c.put_arguments.ensures.large k)
+
+pub put_term-returns-in_ok-apply-in-App-clause-ok : goal.put_term-returns-in_ok-apply-in-App-clause-ok
+put_term-returns-in_ok-apply-in-App-clause-ok t c =
+    put_app c.args.room.now c.take_node.new.room c.put_arguments.new.room c.args.depth c.in_ok-depth-in-App.depth
+    (in_frame (values c.args.stack.now) c.args.frame) (seen c.args.term) c.in-App.sym c.arity.result c.args.built.now c.put_arguments.new.built c.apply.new.self
+    (search rules) c.arity.ensures.number (search rules) (search rules) c.in_ok-put_arguments-in-App.ensures.ok c.in_ok-apply-in-App.ensures.ok

@@ -9,5 +9,6 @@ pub rule_terms-rule_term-requires : goal.rule_terms-rule_term-requires
 rule_terms-rule_term-requires t c =
     let here : get_or c.args.parts.now c.loop-part.part-index c.part-item.result ≡ Inner c.in-Inner.tree = sym c.part-item.is ∙ c.in-Inner.is in
     let smaller = inner_is_smaller c.args.parts.now c.loop-part.part-index c.part-item.result c.in-Inner.tree c.loop-part-test.true here in
-    let same : count (parts_of c.as_slice-parts.result.now) ≡ count c.in-Inner.tree.parts = ap (λ ps. count (parts_of ps)) c.as_slice-parts.ensures.value ∙ ap (λ (v : Derivation). count v.parts) c.tree.view_is in
+    let same : count (parts_of c.as_slice-parts.result.now) ≡ count c.in-Inner.tree.parts = ap (λ ps. count (parts_of ps)) c.as_slice-parts.ensures.value
+    ∙ ap (λ (v : Derivation). count v.parts) c.tree.view_is in
     (omega (arith, smaller, same, c.decreases), tt)

@@ -18,4 +18,11 @@ abbrev pub decreases-rule_terms : goal.decreases-rule_terms
 decreases-rule_terms l = 2 * count (parts_of l.parts.now)
 
 abbrev pub invariant-rule_terms-loop-part : goal.invariant-rule_terms-loop-part
-invariant-rule_terms-loop-part l = Reads (rule_terms l.definitions) (parts_of l.parts) (record { signature = l.initial.signature; variables = l.initial.variables }) l.found.items (parts_of (drop l.part-index l.parts)) (record { signature = l.signature; variables = l.variables })
+invariant-rule_terms-loop-part l =
+    Reads
+    (rule_terms l.definitions)
+    (parts_of l.parts)
+    (record { signature = l.initial.signature; variables = l.initial.variables })
+    l.found.items
+    (parts_of (drop l.part-index l.parts))
+    (record { signature = l.signature; variables = l.variables })

@@ -1,4 +1,4 @@
-use Rattle.std.proofs.Common.{◌≡◌, List, sym, subst, rules, refl, Err}
+use Rattle.std.proofs.Common.{◌≡◌, List, sym, ◌∙◌, subst, rules, refl, Err}
 use Rattle.std.proofs.lemmas.List.{append-nil}
 use Rattle.dps_elab.specs.Expansion.{Value, value_at}
 use Rattle.dps_elab.specs.Locals.{locals_from}
@@ -13,7 +13,7 @@ returns-clause-ok c =
     let P : List Value → Type 0 = λ ls. IsBuilt c.args.self.now.room c.build_local.new.room c.args.depth (value_at ls c.args.number).tree c.in_ok-built.built in
     let h : P (locals_from c.args.scope.first c.args.self.now.stack.items) = subst P top c.in_ok-built.ensures.ok in
     record {
-      same = h.same;
+      same = c.in_ok-boxed.ensures.ok ∙ h.same;
       stack = refl;
       added = record { channels_then = sym (append-nil c.args.self.now.channels.items); privates_then = sym (append-nil c.args.self.now.privates.items); numbers = refl; taken = h.nodes };
       low = h.low;

@@ -1,4 +1,4 @@
-use Rattle.std.proofs.Common.{◌≡◌, List, [], ◌∷◌, sym, subst, rules, refl, Err}
+use Rattle.std.proofs.Common.{◌≡◌, List, [], ◌∷◌, sym, ◌∙◌, subst, rules, refl, Err}
 use Rattle.std.proofs.lemmas.List.{append-nil}
 use Rattle.dps_terms.specs.Tree.{app, trees}
 use Rattle.dps_elab.specs.Expansion.{Value, value_at}
@@ -11,10 +11,11 @@ use Rattle.dps_elab.proofs.writer.Writer.projection.Goals as goal
 pub returns-clause-ok : goal.returns-clause-ok
 returns-clause-ok c =
     let top = on_top c.as_slice-stack.result.now c.args.self.now.stack.items c.args.scope.first c.len.result c.as_slice-stack.ensures.value (search rules) in
-    let P : List Value → Type 0 = λ ls. IsBuilt c.args.self.now.room c.build_projection.new.room c.args.depth (app c.args.projection (trees ((value_at ls c.args.number).tree ∷ []))) c.in_ok-built.built in
+    let P : List Value → Type 0 = λ ls. IsBuilt c.args.self.now.room c.build_projection.new.room c.args.depth (app c.args.projection (trees ((value_at ls c.args.number).tree ∷ [])))
+    c.in_ok-built.built in
     let h : P (locals_from c.args.scope.first c.args.self.now.stack.items) = subst P top c.in_ok-built.ensures.ok in
     record {
-      same = h.same;
+      same = c.in_ok-boxed.ensures.ok ∙ h.same;
       stack = refl;
       added = record { channels_then = sym (append-nil c.args.self.now.channels.items); privates_then = sym (append-nil c.args.self.now.privates.items); numbers = refl; taken = h.nodes };
       low = h.low;

@@ -1,4 +1,4 @@
-use Rattle.std.proofs.Common.{◌≡◌, List, ◌++◌, sym, rules, refl, Err}
+use Rattle.std.proofs.Common.{◌≡◌, List, ◌++◌, sym, ◌∙◌, rules, refl, Err}
 use Rattle.std.proofs.lemmas.List.{append-nil}
 use Rattle.dps_terms.specs.Seen.{seen}
 use Rattle.dps_elab.specs.Expansion.{Value, tree_in, privates_of}
@@ -20,7 +20,7 @@ returns-clause-ok c =
     let uses : c.as_slice-uses.result.now ≡ c.args.written.now.uses = search rules in
     let more : c.add_privates.new.found.items ≡ c.args.self.now.privates.items ++ privates_of locals c.args.written.now.uses = rw (← top2, ← uses) (search rules) in
     record {
-      same = h.same;
+      same = c.in_ok-boxed.ensures.ok ∙ h.same;
       stack = refl;
       added = record { channels_then = sym (append-nil c.args.self.now.channels.items); privates_then = more; numbers = refl; taken = h.nodes };
       low = h.low;

@@ -1,4 +1,0 @@
-use Rattle.dps_elab.proofs.bindings.bindings_text.Goals as goal
-
-pub room-requires : goal.room-requires
-room-requires c = rw (← c.first.view_is) at c.requires

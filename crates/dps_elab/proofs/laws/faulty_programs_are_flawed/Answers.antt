@@ -1,5 +1,0 @@
-use Rattle.dps_elab.proofs.Flaws.{faulty_are_flawed}
-use Rattle.dps_elab.proofs.laws.faulty_programs_are_flawed.Goals as goal
-
-pub returns : goal.returns
-returns c = faulty_are_flawed
