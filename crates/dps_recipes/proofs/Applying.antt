@@ -1,5 +1,5 @@
 -- What a symbol gives over values.
-use Rattle.std.proofs.Common.{◌≡◌, ℕ, nat_eq, not, true, false, List, length, Some, None, refl, sym, ◌∙◌, ap, subst, inl, inr}
+use Rattle.std.proofs.Common.{◌≡◌, ℕ, nat_eq, not, Bool, true, false, MatchBool, List, ◌∷◌, take, drop, length, Some, None, refl, sym, ◌∙◌, ap, subst, inl, inr}
 use Rattle.std.specs.Prelude.{Option, slice_get, MatchOption}
 use Rattle.std.specs.Option.{option_map, option_eq}
 use Rattle.std.proofs.lemmas.Bool.{cases_Bool, eqb-true, eq-eqb}
@@ -13,7 +13,7 @@ use Rattle.dps_terms.proofs.Arguments.{count-trees}
 use Rattle.dps_theory.specs.Theory.{Rule, Theory, HasDestructorRoot, IsAccepted}
 use Rattle.dps_theory.specs.Evaluation.{Reduces}
 use Rattle.dps_theory.proofs.Evaluating.{one_kind, reduces_left}
-use Rattle.dps_recipes.specs.Reduction.{IsReduct, IsStuck, Gives, GivesNothing}
+use Rattle.dps_recipes.specs.Reduction.{IsReduct, IsStuck, Gives, GivesNothing, PutsReduct, PutsGiven}
 
 -- an answer under other words
 pub answer_as : (P Q : Type 0) (R S : Tree → Type 0) → (P → Q) → ((v : Tree) → R v → S v) → (o : Option Tree) → MatchOption o P R → MatchOption o Q S
@@ -45,7 +45,9 @@ module _ (theory : Theory) (f : Sym) (vs : List Tree) (n : ℕ) (len : n ≡ len
   same_count : n ≡ count (trees vs)
   same_count = len ∙ sym (count-trees vs)
 
-  pub has_shape : (kind : SymKind) → option_map (λ s. s.kind) (slice_get theory.shapes f.number) ≡ Some kind → option_map (λ s. s.arity) (slice_get theory.shapes f.number) ≡ Some n → HasShape theory.shapes kind f (count (trees vs))
+  pub has_shape :
+      (kind : SymKind) → option_map (λ s. s.kind) (slice_get theory.shapes f.number) ≡ Some kind
+      → option_map (λ s. s.arity) (slice_get theory.shapes f.number) ≡ Some n → HasShape theory.shapes kind f (count (trees vs))
   has_shape kind a b = subst (HasShape theory.shapes kind f) same_count (shape_of_parts (slice_get theory.shapes f.number) kind n a b)
 
   pub no_arity_gives : (option_map (λ s. s.arity) (slice_get theory.shapes f.number) ≡ Some n → ⊥) → GivesNothing theory f (trees vs)
@@ -69,7 +71,9 @@ module _ (theory : Theory) (accepted : IsAccepted theory) (f : Sym) (vs : Trees)
       let p = reduces_at r.rule r.fits.by r.rule.left (accepted.root r.rule r.listed) r.fits.left in
       record { rule = r.rule; listed = r.listed; patterns = p.0; left = p.1; by = r.fits.by; matched = p.2; right = r.fits.right }
 
-  pub destructor_answer : (o : Option Tree) → HasShape theory.shapes Destructor f (count vs) → MatchOption o (IsStuck theory.rules (app f vs)) (IsReduct theory.rules (app f vs)) → MatchOption o (GivesNothing theory f vs) (Gives theory f vs)
+  pub destructor_answer :
+      (o : Option Tree) → HasShape theory.shapes Destructor f (count vs) → MatchOption o (IsStuck theory.rules (app f vs)) (IsReduct theory.rules (app f vs))
+      → MatchOption o (GivesNothing theory f vs) (Gives theory f vs)
   destructor_answer o shape h =
       answer_as (IsStuck theory.rules (app f vs)) (GivesNothing theory f vs) (IsReduct theory.rules (app f vs)) (Gives theory f vs)
       stuck (λ v r. inr (shape, reduct_reduces v r)) o h
@@ -77,3 +81,19 @@ module _ (theory : Theory) (accepted : IsAccepted theory) (f : Sym) (vs : Trees)
       stuck : IsStuck theory.rules (app f vs) → GivesNothing theory f vs
       stuck s v (inl p) = one_kind theory.shapes f (count vs) (count vs) p.0 shape
       stuck s v (inr p) = s p.1.rule p.1.listed p.1.by (reduces_left theory f vs v p.1)
+
+-- A destructor over the trees in front: what a rule makes of it takes their place.
+pub put_given : (theory : Theory) (f : Sym) (n : ℕ) (old new rest : List Tree) (t : Tree) (found : Bool) → IsAccepted theory
+    → t ≡ app f (trees (take n old)) → rest ≡ drop n old → HasShape theory.shapes Destructor f (count (trees (take n old)))
+    → MatchBool found (PutsReduct theory.rules t rest new) (IsStuck theory.rules t) → MatchBool found (PutsGiven theory f n old new) (GivesNothing theory f (trees (take n old)))
+put_given theory f n old new rest t true accepted e r shape p = record {
+  value = p.value;
+  put = p.put ∙ ap (λ us. p.value ∷ us) r;
+  gives = destructor_answer theory accepted f (trees (take n old)) (Some p.value) shape (subst (λ u. IsReduct theory.rules u p.value) e p.is);
+}
+put_given theory f n old new rest t false accepted e r shape p =
+    destructor_answer theory accepted f (trees (take n old)) None shape (subst (IsStuck theory.rules) e p)
+
+-- what was taken from the front
+pub first_taken : (old new : List Tree) (t u : Tree) (rest : List Tree) → old ≡ u ∷ rest → old ≡ t ∷ new → (t ≡ u) × (new ≡ rest)
+first_taken old new t u rest e k = let m : t ∷ new ≡ u ∷ rest = sym k ∙ e in (cc, cc)

@@ -2,3 +2,4 @@ pub mod Fitting
 pub mod Trying
 pub mod Applying
 pub mod Valuing
+pub mod NodeByNode

@@ -41,7 +41,9 @@ contains_first x xs = (0, omega arith, refl)
 contains_later : (y x : ℕ) (xs : List ℕ) → Contains xs x → Contains (y ∷ xs) x
 contains_later y x xs c = (suc c.0, (let l = c.1 in omega arith), c.2)
 
-within_one : (b : Bool) (later : List ℕ) (m n k d : ℕ) → ((j : ℕ) → j < length later → get_or later j d < suc m + n) → k < length (if b then m ∷ later else later) → get_or (if b then m ∷ later else later) k d < m + suc n
+within_one :
+    (b : Bool) (later : List ℕ) (m n k d : ℕ) → ((j : ℕ) → j < length later → get_or later j d < suc m + n) → k < length (if b then m ∷ later else later)
+    → get_or (if b then m ∷ later else later) k d < m + suc n
 within_one true later m n zero d h l = omega arith
 within_one true later m n (suc j) d h l = omega (arith, h j (omega arith))
 within_one false later m n k d h l = omega (arith, h k l)
@@ -71,7 +73,9 @@ has_one : (rules : List Rule) (k : ℕ) (r : Rule) → slice_get rules k ≡ Som
 has_one rules k r e = (k, slice_get_within rules k r e, get_or_from_slice_get rules k r r e)
 
 -- the rules of an accepted theory that fit a symbol over terms stand at the places of this symbol
-pub all_at_places : (theory : Theory) (f : Sym) (ts : Trees) (rules : List Rule) (at : List ℕ) → IsAccepted theory → rules ≡ theory.rules → at ≡ places theory.rules f.number → HasAllAt rules at (app f ts)
+pub all_at_places :
+    (theory : Theory) (f : Sym) (ts : Trees) (rules : List Rule) (at : List ℕ) → IsAccepted theory → rules ≡ theory.rules → at ≡ places theory.rules f.number
+    → HasAllAt rules at (app f ts)
 all_at_places theory f ts rules at accepted same found =
     subst (λ rs. HasAllAt rs at (app f ts)) (sym same)
     (subst (λ ps. HasAllAt theory.rules ps (app f ts)) (sym found)

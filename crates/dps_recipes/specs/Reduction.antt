@@ -1,8 +1,8 @@
 -- What rules make of a term at its root, and what a symbol gives over values.
-use Rattle.std.specs.Prelude.{◌≡◌, ◌<◌, ◌⊎◌, ℕ, List, length, slice_get, Some, Contains, All}
+use Rattle.std.specs.Prelude.{◌≡◌, ◌<◌, ◌⊎◌, ℕ, List, ◌∷◌, take, drop, length, slice_get, Some, Contains, All}
 use Rattle.dps_terms.specs.declared.Sym.{Sym}
 use Rattle.dps_terms.specs.declared.SymKind.TheVariants.{Constructor, Destructor}
-use Rattle.dps_terms.specs.Tree.{Tree, Trees, app, count}
+use Rattle.dps_terms.specs.Tree.{Tree, Trees, trees, app, count}
 use Rattle.dps_terms.specs.Replace.{substitute}
 use Rattle.dps_terms.specs.Signature.{HasShape}
 use Rattle.dps_theory.specs.Theory.{Rule, Theory}
@@ -41,3 +41,15 @@ Gives theory f vs v =
 
 abbrev pub GivesNothing : Theory → Sym → Trees → Type 0
 GivesNothing theory f vs = (v : Tree) → ¬ Gives theory f vs v
+
+-- what the symbol gives over the trees in front, of which it takes so many, took their place
+pub record PutsGiven (theory : Theory) (f : Sym) (arity : ℕ) (old new : List Tree) : Type 0 where
+  pub value : Tree
+  pub put : new ≡ value ∷ drop arity old
+  pub gives : Gives theory f (trees (take arity old)) value
+
+-- what some rule makes of the term was put in front
+pub record PutsReduct (rules : List Rule) (t : Tree) (rest new : List Tree) : Type 0 where
+  pub value : Tree
+  pub put : new ≡ value ∷ rest
+  pub is : IsReduct rules t value

@@ -1,17 +1,17 @@
 //! Evaluation, and the values of recipes.
-ghost use Rattle.std.specs.Prelude.{◌≡◌, ◌≤◌, vec_len, IfOk, IfSome, MatchOption, unwrap_or};
+ghost use Rattle.std.specs.Prelude.{◌≡◌, ◌≤◌, length, IfOk, MatchBool, MatchOption, unwrap_or};
 ghost use Rattle.std.specs.Option.{option_copied};
-ghost use Rattle.dps_terms.specs.Tree.{Tree, trees};
+ghost use Rattle.dps_terms.specs.Tree.{Tree};
 ghost use Rattle.dps_terms.specs.Replace.{numbered};
 ghost use Rattle.dps_terms.specs.Views.{arguments};
 ghost use Rattle.dps_terms.specs.Seen.{seen};
 ghost use Rattle.dps_theory.specs.Evaluation.{Evaluates, IsMessage};
 ghost use Rattle.dps_theory.specs.Frames.{HasValue, Succeeds};
-ghost use Rattle.dps_recipes.specs.Values.{HaveValues, HaveNoValues};
+ghost use Rattle.dps_recipes.specs.Values.{PutsValue, PutsNone};
 
 use crate::Frame;
-use crate::reduction::applied;
-use dps_terms::{NoMemory, Term, TermRef, TermView};
+use crate::reduction::put_applied;
+use dps_terms::{NoMemory, Term, TermRef, TermStack, TermView};
 use dps_theory::Theory;
 use std::alloc::Global;
 
@@ -39,6 +39,10 @@ pub fn value(
     Ok(found)
 }
 
+/// The value that the recipe has where the handles are these messages, and `None` exactly where it has none.
+///
+/// The nodes are taken from the last to the first, so that the values of a symbol's arguments are in front when it is
+/// reached.
 #[cycle(values)]
 fn value_in(
     alloc: Global,
@@ -48,48 +52,50 @@ fn value_in(
 ) -> Result<Option<Term>, NoMemory>
     ensures { IfOk result (λ o. MatchOption o (¬ Succeeds theory.now frame.now (seen recipe.entry)) (HasValue theory.now frame.now (seen recipe.entry))) }
 {
-    match recipe.view() {
-        TermView::App(sym) => match values_in(alloc, theory, frame, recipe)? {
-            Some(values) => {
-                let found = applied(alloc, theory, sym, values)?;
-                Ok(found)
-            }
-            None => Ok(None),
-        },
-        TermView::Ax(number) => match message(frame, number) {
-            Some(message) => {
-                let found = value_in(alloc, theory, &[], message.whole())?;
-                Ok(found)
-            }
-            None => Ok(None),
-        },
-        TermView::Public(_) | TermView::Private(_) | TermView::Rigid(_) => {
-            let name = recipe.copy(alloc)?;
-            Ok(Some(name))
+    let mut values = TermStack::empty(alloc);
+    let mut left = recipe.node_count();
+    while left > 0 {
+        left -= 1;
+        if !put_value(alloc, theory, frame, recipe.subterm(left), &mut values)? {
+            return Ok(None);
         }
-        TermView::Var(_) | TermView::Entry(_) => Ok(None),
     }
+    Ok(Some(values.into_term()))
 }
 
-/// The values of the arguments, and `None` exactly where one of them has none.
+/// Puts the recipe's value in the place of the values of its arguments, which are in front. Says whether it has one.
 #[cycle(values)]
-fn values_in(
+fn put_value(
     alloc: Global,
     theory: &Theory,
     frame: &[Term],
     recipe: TermRef<'_>,
-) -> Result<Option<Vec<Term>>, NoMemory>
-    ensures values { IfOk result (λ o. MatchOption o (HaveNoValues theory.now frame.now (arguments (seen recipe.entry))) (λ values. HaveValues theory.now frame.now (arguments (seen recipe.entry)) (trees values.items))) }
-    ensures few { IfOk result (λ o. IfSome o (λ values. vec_len values ≤ 8)) }
+    values: &mut TermStack,
+) -> Result<bool, NoMemory>
+    requires { length (arguments (seen recipe)) ≤ length values.old }
+    ensures { IfOk result (λ found. MatchBool found (PutsValue theory.now frame.now (seen recipe.entry) values.old values.new) (PutsNone theory.now frame.now (seen recipe.entry) values.old)) }
 {
-    let mut values = Vec::with_capacity(alloc, recipe.arity() as usize)?;
-    for index in 0..recipe.arity() {
-        match value_in(alloc, theory, frame, recipe.argument(index))? {
-            Some(value) => values.push(value)?,
-            None => return Ok(None),
+    match recipe.view() {
+        TermView::App(sym) => {
+            let found = put_applied(alloc, theory, sym, recipe.arity(), values)?;
+            Ok(found)
         }
+        TermView::Ax(number) => match message(frame, number) {
+            Some(message) => match value_in(alloc, theory, &[], message.whole())? {
+                Some(value) => {
+                    values.push(value.whole())?;
+                    Ok(true)
+                }
+                None => Ok(false),
+            },
+            None => Ok(false),
+        },
+        TermView::Public(_) | TermView::Private(_) | TermView::Rigid(_) => {
+            values.push(recipe)?;
+            Ok(true)
+        }
+        TermView::Var(_) | TermView::Entry(_) => Ok(false),
     }
-    Ok(Some(values))
 }
 
 /// The message of a handle, which is counted from 1, and `None` exactly where there is none.

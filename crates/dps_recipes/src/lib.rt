@@ -1,7 +1,8 @@
 //! What terms evaluate to, and what recipes give in frames.
 //!
 //! Both are exact by the definitions of evaluation and of frames (`dps_theory`). Evaluation is by value: each argument is
-//! evaluated once, and a destructor tries the rules of its own root alone.
+//! evaluated once, and a destructor tries the rules of its own root alone. One loop goes over the nodes of a term, so that
+//! it may be of any depth.
 #![tactic(auto)]
 
 mod evaluation;

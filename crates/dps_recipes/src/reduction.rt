@@ -1,10 +1,10 @@
 //! What rules make of terms, at their roots.
-ghost use Rattle.std.specs.Prelude.{◌≡◌, ◌≤◌, vec_len, IfOk, MatchOption};
+ghost use Rattle.std.specs.Prelude.{◌≡◌, ◌≤◌, length, take, IfOk, MatchBool, MatchOption};
 ghost use Rattle.dps_terms.specs.Tree.{trees};
 ghost use Rattle.dps_theory.specs.Theory.{IsAccepted};
-ghost use Rattle.dps_recipes.specs.Reduction.{DoesNotFit, IsInstance, IsStuck, IsReduct, HasAllAt, Gives, GivesNothing};
+ghost use Rattle.dps_recipes.specs.Reduction.{DoesNotFit, IsInstance, IsStuck, IsReduct, HasAllAt, GivesNothing, PutsGiven, PutsReduct};
 
-use dps_terms::{NoMemory, Sym, SymKind, Term};
+use dps_terms::{NoMemory, Sym, SymKind, Term, TermStack};
 use dps_theory::{Rule, Theory};
 use dps_unify::matches;
 use std::alloc::Global;
@@ -42,28 +42,53 @@ fn reduct(
     Ok(None)
 }
 
-/// What the symbol gives over values, and `None` exactly where it gives nothing. The theory is an accepted one.
-pub(crate) fn applied(
+/// Puts what the symbol gives in the place of the values in front, of which it takes so many. Says whether it gives
+/// anything. The theory is an accepted one.
+pub(crate) fn put_applied(
     alloc: Global,
     theory: &Theory,
     sym: Sym,
-    values: Vec<Term>,
-) -> Result<Option<Term>, NoMemory>
-    requires { vec_len values ≤ 8 }
-    ensures given { IfOk result (λ o. MatchOption o (GivesNothing theory.now sym (trees values.items)) (Gives theory.now sym (trees values.items))) }
+    arity: u32,
+    values: &mut TermStack,
+) -> Result<bool, NoMemory>
+    requires few { arity ≤ 8 }
+    requires there { arity ≤ length values.old }
+    ensures given { IfOk result (λ found. MatchBool found (PutsGiven theory.now sym arity values.old values.new) (GivesNothing theory.now sym (trees (take arity values.old)))) }
     ensures accepted { IfOk result (λ _. IsAccepted theory.now) }
 {
     let rules = theory.rules();
-    if theory.arity(sym) != Some(values.len() as u32) {
-        return Ok(None);
+    if theory.arity(sym) != Some(arity) {
+        return Ok(false);
     }
-    let term = Term::app(alloc, sym, values)?;
+    values.apply(sym, arity)?;
     match theory.kind(sym) {
-        Some(SymKind::Constructor) => Ok(Some(term)),
+        Some(SymKind::Constructor) => Ok(true),
         Some(SymKind::Destructor) => {
-            let found = reduct(alloc, rules, theory.of(sym), &term)?;
+            let term = values.pop()?;
+            let found = put_reduct(alloc, rules, theory.of(sym), &term, values)?;
             Ok(found)
         }
-        None => Ok(None),
+        None => Ok(false),
+    }
+}
+
+/// Puts what the rules at these places make of the term in front. Says whether a rule fits. All rules that fit stand at
+/// these places.
+fn put_reduct(
+    alloc: Global,
+    rules: &[Rule],
+    places: &[u32],
+    term: &Term,
+    values: &mut TermStack,
+) -> Result<bool, NoMemory>
+    requires { HasAllAt rules.now places.now term.now }
+    ensures { IfOk result (λ found. MatchBool found (PutsReduct rules.now term.now values.old values.new) (IsStuck rules.now term.now)) }
+{
+    match reduct(alloc, rules, places, term)? {
+        Some(value) => {
+            values.push(value.whole())?;
+            Ok(true)
+        }
+        None => Ok(false),
     }
 }

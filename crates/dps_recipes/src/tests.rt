@@ -1,7 +1,9 @@
 //! Tables of rules and of recipes.
 use crate::reduction::rewritten;
 use crate::{Frame, evaluate, value};
-use dps_terms::{AddRefusal, NoMemory, PublicName, Signature, Sym, SymKind, Term, is_identifier};
+use dps_terms::{
+    AddRefusal, NoMemory, PublicName, Signature, Subst, Sym, SymKind, Term, is_identifier,
+};
 use dps_theory::{Rule, Theory};
 use std::alloc::Global;
 use std::process::Abort;
@@ -17,23 +19,38 @@ fn over(alloc: Global, stack: &mut Vec<Term>, number: u32, arity: usize) -> Resu
     Term::app(alloc, Sym { number }, arguments)
 }
 
-/// The terms that the letters leave on a stack: `p` is the symbol 0 over two terms and `q` over one, `g` is the symbol 1
-/// over one term and `d` the symbol 2 over two, `x` and `y` are variables, `a` and `b` are declared names, `@` is the
-/// attacker's last own name, digits are handles, and other letters are private names.
+/// The symbol of the letter, by its number, with as many terms as it is put over: `p` is the symbol 0 over two terms and
+/// `q` over one, `g` is the symbol 1 over one term and `d` the symbol 2 over two.
+fn symbol(letter: u8) -> Option<(u32, usize)> {
+    match letter {
+        b'p' => Some((0, 2)),
+        b'q' => Some((0, 1)),
+        b'g' => Some((1, 1)),
+        b'd' => Some((2, 2)),
+        _ => None,
+    }
+}
+
+/// The leaf of the letter: `x` and `y` are variables, `a` and `b` are declared names, `@` is the attacker's last own name,
+/// digits are handles, and other letters are private names.
+fn leaf(alloc: Global, letter: u8) -> Result<Term, NoMemory> {
+    match letter {
+        b'x' | b'y' => Term::var(alloc, u64::from(letter)),
+        b'a' => Term::public(alloc, PublicName::Declared(0)),
+        b'b' => Term::public(alloc, PublicName::Declared(1)),
+        b'@' => Term::public(alloc, PublicName::At(u64::MAX)),
+        b'0'..=b'9' => Term::ax(alloc, u32::from(letter - b'0')),
+        _ => Term::private(alloc, u64::from(letter)),
+    }
+}
+
+/// The terms that the letters leave on a stack: a leaf is put there, and a symbol takes its arguments.
 fn terms(alloc: Global, letters: &str) -> Result<Vec<Term>, NoMemory> {
     let mut stack = Vec::new(alloc);
     for letter in letters.as_bytes() {
-        let term = match *letter {
-            b'p' => over(alloc, &mut stack, 0, 2)?,
-            b'q' => over(alloc, &mut stack, 0, 1)?,
-            b'g' => over(alloc, &mut stack, 1, 1)?,
-            b'd' => over(alloc, &mut stack, 2, 2)?,
-            b'x' | b'y' => Term::var(alloc, u64::from(*letter))?,
-            b'a' => Term::public(alloc, PublicName::Declared(0))?,
-            b'b' => Term::public(alloc, PublicName::Declared(1))?,
-            b'@' => Term::public(alloc, PublicName::At(u64::MAX))?,
-            b'0'..=b'9' => Term::ax(alloc, u32::from(*letter - b'0'))?,
-            other => Term::private(alloc, u64::from(other))?,
+        let term = match symbol(*letter) {
+            Some((number, arity)) => over(alloc, &mut stack, number, arity)?,
+            None => leaf(alloc, *letter)?,
         };
         stack.push(term)?;
     }
@@ -175,5 +192,48 @@ fn values(rt: HostRuntime) -> Result<(), Fail> {
     }
     assert!(rt; evaluates(alloc, &theory, "kap", "kap"));
     assert!(rt; evaluates(alloc, &theory, "1", ""));
+    Ok(())
+}
+
+/// The term with itself in the place of variable 0.
+fn doubled(alloc: Global, term: &Term) -> Result<Term, NoMemory> {
+    with(alloc, term, term.copy(alloc)?)
+}
+
+/// The term with the value in the place of variable 0.
+fn with(alloc: Global, term: &Term, value: Term) -> Result<Term, NoMemory> {
+    let mut by = Subst::empty(alloc);
+    by.bind(0, value)?;
+    term.subst(alloc, &by)
+}
+
+/// A chain of 2^16 symbols of this number over a name, each over one term.
+fn chain(alloc: Global, number: u32) -> Result<Term, NoMemory> {
+    let mut arguments = Vec::new(alloc);
+    arguments.push(Term::var(alloc, 0)?)?;
+    let mut term = Term::app(alloc, Sym { number }, arguments)?;
+    for _ in 0..16 {
+        term = doubled(alloc, &term)?;
+    }
+    with(alloc, &term, Term::private(alloc, 0)?)
+}
+
+/// Whether the term evaluates to itself.
+fn evaluates_to_itself(alloc: Global, theory: &Theory, term: &Term) -> bool {
+    match evaluate(alloc, theory, term) {
+        Ok(Some(found)) => found.equals(term),
+        _ => false,
+    }
+}
+
+#[test]
+fn deep_terms(rt: HostRuntime) -> Result<(), Fail> {
+    let alloc = rt.alloc();
+    let mut signature = Signature::new(alloc);
+    assert!(rt; add(&rt, &mut signature, "h", SymKind::Constructor, 1).is_ok());
+    let theory = Theory::without_rules(alloc, &signature)?;
+    let term = chain(alloc, 0)?;
+    assert_eq!(rt; term.size(), 65_537);
+    assert!(rt; evaluates_to_itself(alloc, &theory, &term));
     Ok(())
 }

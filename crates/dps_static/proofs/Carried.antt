@@ -29,7 +29,9 @@ length_further : (ts : List Tree) (t : Tree) → length (ts ++ t ∷ []) ≡ len
 length_further [] t = refl
 length_further (u ∷ ts) t = omega (arith, length_further ts t)
 
-pub values_next : (theory : Theory) (frame recipes values new : List Tree) (r v : Tree) (n : ℕ) → slice_get recipes n ≡ Some r → new ≡ values ++ v ∷ [] → HasValue theory frame r v → AreValuesFirst theory frame recipes values n → AreValuesFirst theory frame recipes new (n + 1)
+pub values_next :
+    (theory : Theory) (frame recipes values new : List Tree) (r v : Tree) (n : ℕ) → slice_get recipes n ≡ Some r → new ≡ values ++ v ∷ []
+    → HasValue theory frame r v → AreValuesFirst theory frame recipes values n → AreValuesFirst theory frame recipes new (n + 1)
 values_next theory frame recipes values new r v n e is here first = subst (λ vs. AreValuesFirst theory frame recipes vs (n + 1)) (sym is) (record {
   counted = omega (arith, length_further values v, first.counted);
   are = λ i s w d g.
@@ -64,7 +66,9 @@ pub record PassFirst (theory : Theory) (counterparts : List Tree) (uses : List R
 pub pass_none : (theory : Theory) (counterparts : List Tree) (uses : List RuleUse) → PassFirst theory counterparts uses 0
 pass_none theory counterparts uses = record { passes = λ i one h. absurd (omega (arith, h)) }
 
-pub pass_next : (theory : Theory) (counterparts : List Tree) (uses : List RuleUse) (one : RuleUse) (n : ℕ) → slice_get uses n ≡ Some one → Passes theory counterparts one → PassFirst theory counterparts uses n → PassFirst theory counterparts uses (n + 1)
+pub pass_next :
+    (theory : Theory) (counterparts : List Tree) (uses : List RuleUse) (one : RuleUse) (n : ℕ) → slice_get uses n ≡ Some one → Passes theory counterparts one
+    → PassFirst theory counterparts uses n → PassFirst theory counterparts uses (n + 1)
 pass_next theory counterparts uses one n e here first = record { passes = λ i other h d. at i other d (cases_lt i n) h }
   where
     at : (i : ℕ) (other : RuleUse) → slice_get uses i ≡ Some other → (i < n) ⊎ (n ≤ i) → i < n + 1 → Passes theory counterparts other
@@ -79,5 +83,7 @@ pass_all theory counterparts uses n h first = λ one c.
     let l = c.1 in
     first.passes c.0 one (omega (arith, l, h)) (slice_get-get_or uses c.0 one l ∙ ap Some c.2)
 
-pub test_listed : (theory : Theory) (recipes counterparts : List Tree) (uses : List RuleUse) (one : RuleUse) (n : ℕ) (test : Test) → slice_get uses n ≡ Some one → IsUseTest theory recipes counterparts one test → IsTestOfUses theory recipes counterparts uses test
+pub test_listed :
+    (theory : Theory) (recipes counterparts : List Tree) (uses : List RuleUse) (one : RuleUse) (n : ℕ) (test : Test) → slice_get uses n ≡ Some one
+    → IsUseTest theory recipes counterparts one test → IsTestOfUses theory recipes counterparts uses test
 test_listed theory recipes counterparts uses one n test e h = record { one = one; listed = (n, slice_get_within uses n one e, get_or_from_slice_get uses n one one e); tests = h }

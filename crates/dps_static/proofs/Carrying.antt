@@ -22,9 +22,6 @@ use Rattle.dps_static.proofs.Ways.{AreOpenWays}
 use Rattle.dps_static.proofs.Covering.{ways_built, same_instances}
 use Rattle.dps_static.proofs.Moving.{put_all, Moves, IsPassed, rule_moves, right_stands, below_root}
 
-abbrev pub Patterns : Trees → Type 0
-Patterns ts = AreBuiltOf IsNoRigidLeaf AnySymbol ts
-
 -- the substitutions that were found for a rule cover its left side, and each of them was passed
 pub record IsRulePassed (theory : Theory) (kept counterparts : List Tree) (g : Sym) (patterns : Trees) (right : Tree) : Type 0 where
   pub found : List (List (ℕ × Tree))
@@ -35,7 +32,8 @@ pub record ArePassed (theory : Theory) (kept counterparts : List Tree) : Type 0 
   pub follows : Follows kept counterparts
   pub rules : (rule : Rule) (g : Sym) (patterns : Trees) → HasRule theory rule → rule.left ≡ app g patterns → IsRulePassed theory kept counterparts g patterns rule.right
 
-module _ (theory : Theory) (plain : HasPlainRules theory) (accepted : IsAccepted theory) (kept counterparts : List Tree) (low : HaveNoRigidName kept) (lower : HaveNoRigidName counterparts) (passed : ArePassed theory kept counterparts) where
+module _ (theory : Theory) (plain : HasPlainRules theory) (accepted : IsAccepted theory) (kept counterparts : List Tree) (low : HaveNoRigidName kept) (lower : HaveNoRigidName counterparts)
+    (passed : ArePassed theory kept counterparts) where
   -- a variable of the left side is a part of the values
   clean_variable : (by : ℕ → Tree) (ps vs : Trees) (n : ℕ) → substitute_all by ps ≡ vs → AreBuiltOf IsNoRigidLeaf AnySymbol vs → IsAmong (leaf (var n)) ps → HasNoRigidName (by n)
   clean_variable by ps vs n e h k = built_among IsNoRigidLeaf AnySymbol h (subst (IsAmong (by n)) e (keeps_among (variables_to by) k))
@@ -47,7 +45,8 @@ module _ (theory : Theory) (plain : HasPlainRules theory) (accepted : IsAccepted
     z_clean : (n : ℕ) → HasNoRigidName (z n)
     z_clean n =
         elim (restricted_cases (variables r.rule.left) r.by n) [
-          | inl c ↦ subst HasNoRigidName (sym c.1) (clean_variable r.by r.patterns (put_all kept ws) n r.matched clean (below_root r.rule.left g r.patterns n r.left ((variables_are_those r.rule.left n).0 c.0)))
+          | inl c ↦ subst HasNoRigidName (sym c.1)
+              (clean_variable r.by r.patterns (put_all kept ws) n r.matched clean (below_root r.rule.left g r.patterns n r.left ((variables_are_those r.rule.left n).0 c.0)))
           | inr e ↦ subst HasNoRigidName (sym e) tt
         ]
 
@@ -110,7 +109,9 @@ module _ (theory : Theory) (plain : HasPlainRules theory) (accepted : IsAccepted
   module _ (signature : Signature) (m : ℕ) (first second : List Tree)
       (messages : (j : ℕ) (v : Tree) → 1 ≤ j → j ≤ m → Evaluates theory (in_frame first (leaf (ax j))) v → Carries (in_frame second (leaf (ax j))) v)
       (clean : (r v : Tree) → IsRecipe signature m r → Evaluates theory (in_frame first r) v → HasNoRigidName v) where
-    all_clean : (rs vs : Trees) → AreBuiltOf (IsRecipeLeaf signature m) (HasArity (shapes signature)) rs → EvaluateAll theory (replace_all (handles_to first) rs) vs → AreBuiltOf IsNoRigidLeaf AnySymbol vs
+    all_clean :
+        (rs vs : Trees) → AreBuiltOf (IsRecipeLeaf signature m) (HasArity (shapes signature)) rs → EvaluateAll theory (replace_all (handles_to first) rs) vs
+        → AreBuiltOf IsNoRigidLeaf AnySymbol vs
     all_clean none vs h no_terms = tt
     all_clean (more r rs) vs h (a_term {v} {vs = us} a b) = (clean r v h.0 a, all_clean rs us h.1 b)
 
@@ -129,7 +130,9 @@ module _ (theory : Theory) (plain : HasPlainRules theory) (accepted : IsAccepted
           let a = applied_at theory e in
           over f (replace_all (handles_to first) rs) (replace_all (handles_to second) rs) v a (all_clean rs a.values h.1 a.all) (all_carried rs a.values h.1 a.all)
 
-      pub all_carried : (rs vs : Trees) → AreBuiltOf (IsRecipeLeaf signature m) (HasArity (shapes signature)) rs → EvaluateAll theory (replace_all (handles_to first) rs) vs → CarriesAll (replace_all (handles_to second) rs) vs
+      pub all_carried :
+          (rs vs : Trees) → AreBuiltOf (IsRecipeLeaf signature m) (HasArity (shapes signature)) rs → EvaluateAll theory (replace_all (handles_to first) rs) vs
+          → CarriesAll (replace_all (handles_to second) rs) vs
       all_carried none vs h no_terms = record { ways = none; are_ways = record { known = tt; closed = tt }; give = refl; there = no_terms }
       all_carried (more r rs) vs h (a_term {v} {vs = us} a b) =
           let c = carried r v h.0 a in

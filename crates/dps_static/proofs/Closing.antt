@@ -10,7 +10,9 @@ use Rattle.dps_static.proofs.Covering.{ways_built}
 use Rattle.dps_static.proofs.Moving.{IsPassed}
 use Rattle.dps_static.proofs.Carrying.{ArePassed}
 
-passed_itself : (theory : Theory) (kept : List Tree) (rule : Rule) (g : Sym) (patterns : Trees) (s : List (ℕ × Tree)) → HasRule theory rule → rule.left ≡ app g patterns → IsDone kept patterns rule.right s → IsPassed theory kept kept g patterns rule.right s
+passed_itself :
+    (theory : Theory) (kept : List Tree) (rule : Rule) (g : Sym) (patterns : Trees) (s : List (ℕ × Tree)) → HasRule theory rule → rule.left ≡ app g patterns
+    → IsDone kept patterns rule.right s → IsPassed theory kept kept g patterns rule.right s
 passed_itself theory kept rule g patterns s listed left d = record {
   passed = λ ways are e.
       let b = d.done (ways_built kept ways (substitute_all (generic s) patterns) are e) in

@@ -65,8 +65,12 @@ module _ (theory : Theory) (frame : List Tree) (clean : IsCleanFrame theory fram
         | inr q ↦ leaf_meets IsRuleLeaf AnySymbol (plain.right q.0 q.1) q.2
       ])
 
-module _ (theory : Theory) (plain : HasPlainRules theory) (accepted : IsAccepted theory) (kept counterparts : List Tree) (low : HaveNoRigidName kept) (lower : HaveNoRigidName counterparts) (passed : ArePassed theory kept counterparts) (first second : List Tree) (clean : IsCleanFrame theory first) (cleaner : IsCleanFrame theory second) (lengths : length first ≡ length second) (starts : StartsWith kept first) (begins : StartsWith counterparts second) where
-  message_carried : (j : ℕ) (v : Tree) → 1 ≤ j → j ≤ length first → Evaluates theory (in_frame first (leaf (ax j))) v → Carries theory plain accepted kept counterparts low lower passed (in_frame second (leaf (ax j))) v
+module _ (theory : Theory) (plain : HasPlainRules theory) (accepted : IsAccepted theory) (kept counterparts : List Tree) (low : HaveNoRigidName kept) (lower : HaveNoRigidName counterparts)
+    (passed : ArePassed theory kept counterparts) (first second : List Tree) (clean : IsCleanFrame theory first) (cleaner : IsCleanFrame theory second) (lengths : length first ≡ length second)
+    (starts : StartsWith kept first) (begins : StartsWith counterparts second) where
+  message_carried :
+      (j : ℕ) (v : Tree) → 1 ≤ j → j ≤ length first → Evaluates theory (in_frame first (leaf (ax j))) v
+      → Carries theory plain accepted kept counterparts low lower passed (in_frame second (leaf (ax j))) v
   message_carried zero v l h e = absurd (omega arith)
   message_carried (suc k) v l h e =
       let t = get_or first k (leaf (ax (suc k))) in
@@ -104,7 +108,9 @@ module _ (theory : Theory) (plain : HasPlainRules theory) (accepted : IsAccepted
     }
 
 -- both directions
-pub both_at_most : (signature : Signature) (theory : Theory) (first second : List Tree) → length first ≡ length second → IsAtMost signature theory first second → IsAtMost signature theory second first → AreStaticallyEquivalent signature theory first second
+pub both_at_most :
+    (signature : Signature) (theory : Theory) (first second : List Tree) → length first ≡ length second → IsAtMost signature theory first second
+    → IsAtMost signature theory second first → AreStaticallyEquivalent signature theory first second
 both_at_most signature theory first second lengths one two = record {
   same_length = lengths;
   same_successes = λ r h. (one.successes r h, two.successes r (subst (λ m. IsRecipe signature m r) lengths h));

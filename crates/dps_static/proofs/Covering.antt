@@ -132,7 +132,9 @@ module _ (kept : List Tree) (z : ℕ → Tree) where
       open_built q a None e = built_rigid kept n
 
   -- a leaf that is no variable is itself in every instance
-  settled_fixed : (s : List (ℕ × Tree)) (x : Leaf) → ((y : ℕ → Tree) → substitute y (leaf x) ≡ leaf x) → ((n : ℕ) → leaf (var n) ≡ leaf x → ⊥) → IsBuilt kept (substitute z (leaf x)) → IsSettled kept z s (leaf x)
+  settled_fixed :
+      (s : List (ℕ × Tree)) (x : Leaf) → ((y : ℕ → Tree) → substitute y (leaf x) ≡ leaf x) → ((n : ℕ) → leaf (var n) ≡ leaf x → ⊥)
+      → IsBuilt kept (substitute z (leaf x)) → IsSettled kept z s (leaf x)
   settled_fixed s x fixed other b = record {
     built = λ q e g. subst (IsBuilt kept) (fixed z ∙ sym (fixed (generic q))) b;
     variables = λ n k. absurd (other n (in_leaf x (leaf (var n)) k));

@@ -13,7 +13,8 @@ use Rattle.dps_unify.specs.Matching.{Agrees}
 use Rattle.dps_static.specs.Binding.{CoversLeft}
 use Rattle.dps_static.specs.Generic.{IsBuilt, AreBuilt, IsSettled, AreSettled, IsFound}
 use Rattle.dps_static.specs.Saturation.{StartsWith}
-use Rattle.dps_static.specs.Cuts.{IsKeptWithin, IsCut, AreCut, AreCutWithin, AreAllCut, AreAllSettled, CoversEntries, Covers, CoversArguments, CoversAround, CoversNew, CoversNewArguments, CoversNewLeft, CoversBefore}
+use Rattle.dps_static.specs.Cuts.{IsKeptWithin, IsCut, AreCut, AreCutWithin, AreAllCut, AreAllSettled, CoversEntries}
+use Rattle.dps_static.specs.Cuts.{Covers, CoversArguments, CoversAround, CoversNew, CoversNewArguments, CoversNewLeft, CoversBefore}
 use Rattle.dps_static.proofs.Ways.{no_app_leaf}
 use Rattle.dps_static.proofs.Covering.{kept_or_built, kept_built, found_now, extends_in_turn, settled_leaf, settled_root, settled_entry, settled_later}
 
@@ -99,7 +100,9 @@ covers_nothing kept n left m = record {
 
 -- an entry settles the pattern, also where more is kept later
 module _ (kept later : List Tree) (starts : StartsWith later kept) (z : ℕ → Tree) (start end : ℕ) where
-  by_entry : (p : Tree) (s : List (ℕ × Tree)) (begun found : List (List (ℕ × Tree))) → CoversEntries kept start end p begun found → Contains begun s → Agrees z s → IsKeptWithin kept start end (substitute z p) → IsFound z s found (λ q. IsSettled later z q p)
+  by_entry :
+      (p : Tree) (s : List (ℕ × Tree)) (begun found : List (List (ℕ × Tree))) → CoversEntries kept start end p begun found → Contains begun s → Agrees z s
+      → IsKeptWithin kept start end (substitute z p) → IsFound z s found (λ q. IsSettled later z q p)
   by_entry p s begun found one h a e =
       let d = one.covers z s h a e in
       record {
@@ -122,7 +125,9 @@ module _ (kept : List Tree) (n : ℕ) where
   covers_leaf (app f ps) begun h = absurd (h f refl)
   covers_leaf (leaf x) begun h = record { covers = λ later starts z s c a b. found_now z s begun (λ q. IsSettled later z q (leaf x)) c a (settled_leaf later z s x b) }
 
-  covers_app : (f : Sym) (ps : Trees) (begun entries rest : List (List (ℕ × Tree))) → CoversEntries kept 0 n (app f ps) begun entries → CoversArguments kept n (list_of ps) 0 (length (list_of ps)) begun rest → Covers kept n (app f ps) begun (entries ++ rest)
+  covers_app :
+      (f : Sym) (ps : Trees) (begun entries rest : List (List (ℕ × Tree))) → CoversEntries kept 0 n (app f ps) begun entries
+      → CoversArguments kept n (list_of ps) 0 (length (list_of ps)) begun rest → Covers kept n (app f ps) begun (entries ++ rest)
   covers_app f ps begun entries rest one all = record {
     covers = λ later starts z s c a b.
         elim b [
@@ -139,17 +144,23 @@ module _ (kept : List Tree) (n : ℕ) where
         ];
   }
 
-  pub covers_root : (p : Tree) (begun entries rest : List (List (ℕ × Tree))) (f : Sym) → App f ≡ view_of p → CoversEntries kept 0 n p begun entries → CoversArguments kept n (arguments p) 0 (length (arguments p)) begun rest → Covers kept n p begun (entries ++ rest)
+  pub covers_root :
+      (p : Tree) (begun entries rest : List (List (ℕ × Tree))) (f : Sym) → App f ≡ view_of p → CoversEntries kept 0 n p begun entries
+      → CoversArguments kept n (arguments p) 0 (length (arguments p)) begun rest → Covers kept n p begun (entries ++ rest)
   covers_root (leaf x) begun entries rest f e one all = absurd (no_app_leaf x f e)
   covers_root (app g ps) begun entries rest f e one all = covers_app g ps begun entries rest one all
 
   -- argument by argument
   pub covers_none : (ps : List Tree) (start end : ℕ) (begun : List (List (ℕ × Tree))) → end ≤ start → CoversArguments kept n ps start end begun begun
   covers_none ps start end begun m = record {
-    covers = λ later starts z s c a b. found_now z s begun (λ q. (j : ℕ) (p : Tree) → start ≤ j → j < end → slice_get ps j ≡ Some p → IsSettled later z q p) c a (λ j p h l e. absurd (omega (arith, m, h, l)));
+    covers =
+        λ later starts z s c a b. found_now z s begun (λ q. (j : ℕ) (p : Tree) → start ≤ j → j < end → slice_get ps j ≡ Some p → IsSettled later z q p) c a
+        (λ j p h l e. absurd (omega (arith, m, h, l)));
   }
 
-  pub covers_next : (ps : List Tree) (start i : ℕ) (p : Tree) (begun middle found : List (List (ℕ × Tree))) → start ≤ i → slice_get ps i ≡ Some p → CoversArguments kept n ps start i begun middle → Covers kept n p middle found → CoversArguments kept n ps start (i + 1) begun found
+  pub covers_next :
+      (ps : List Tree) (start i : ℕ) (p : Tree) (begun middle found : List (List (ℕ × Tree))) → start ≤ i → slice_get ps i ≡ Some p
+      → CoversArguments kept n ps start i begun middle → Covers kept n p middle found → CoversArguments kept n ps start (i + 1) begun found
   covers_next ps start i p begun middle found m at all one = record {
     covers = λ later starts z s c a b.
         let d = all.covers later starts z s c a (λ j q h l e. b j q h (omega (arith, l)) e) in
@@ -167,10 +178,14 @@ module _ (kept : List Tree) (n : ℕ) where
         };
   }
     where
-      settled_here : (later : List Tree) (z : ℕ → Tree) (s : List (ℕ × Tree)) (qs : List Tree) (k j : ℕ) (q r : Tree) → k ≡ j → slice_get qs k ≡ Some q → slice_get qs j ≡ Some r → IsSettled later z s q → IsSettled later z s r
+      settled_here :
+          (later : List Tree) (z : ℕ → Tree) (s : List (ℕ × Tree)) (qs : List Tree) (k j : ℕ) (q r : Tree) → k ≡ j → slice_get qs k ≡ Some q
+          → slice_get qs j ≡ Some r → IsSettled later z s q → IsSettled later z s r
       settled_here later z s qs k j q r x d e h = let y : Some q ≡ Some r = sym d ∙ (ap (slice_get qs) x ∙ e) in let same : q ≡ r = cc in subst (IsSettled later z s) same h
 
-  pub covers_around : (ps : List Tree) (pivot : ℕ) (begun middle found : List (List (ℕ × Tree))) → CoversArguments kept n ps 0 pivot begun middle → CoversArguments kept (length kept) ps (pivot + 1) (length ps) middle found → CoversAround kept n ps pivot begun found
+  pub covers_around :
+      (ps : List Tree) (pivot : ℕ) (begun middle found : List (List (ℕ × Tree))) → CoversArguments kept n ps 0 pivot begun middle
+      → CoversArguments kept (length kept) ps (pivot + 1) (length ps) middle found → CoversAround kept n ps pivot begun found
   covers_around ps pivot begun middle found one rest = record {
     covers = λ later starts z s c a b f.
         let d = one.covers later starts z s c a b in
@@ -199,7 +214,9 @@ module _ (kept : List Tree) (n : ℕ) where
         | inr l ↦ inr (record { place = e.place; behind = l; before = e.before; there = e.there })
       ]
 
-  new_app : (f : Sym) (ps : Trees) (begun entries rest : List (List (ℕ × Tree))) → CoversEntries kept n (length kept) (app f ps) begun entries → CoversNewArguments kept n (list_of ps) begun rest → CoversNew kept n (app f ps) begun (entries ++ rest)
+  new_app :
+      (f : Sym) (ps : Trees) (begun entries rest : List (List (ℕ × Tree))) → CoversEntries kept n (length kept) (app f ps) begun entries
+      → CoversNewArguments kept n (list_of ps) begun rest → CoversNew kept n (app f ps) begun (entries ++ rest)
   new_app f ps begun entries rest one all = record {
     covers = λ later starts z s c a b.
         elim b [
@@ -222,7 +239,9 @@ module _ (kept : List Tree) (n : ℕ) where
         ];
   }
 
-  pub new_root : (p : Tree) (begun entries rest : List (List (ℕ × Tree))) (f : Sym) → App f ≡ view_of p → CoversEntries kept n (length kept) p begun entries → CoversNewArguments kept n (arguments p) begun rest → CoversNew kept n p begun (entries ++ rest)
+  pub new_root :
+      (p : Tree) (begun entries rest : List (List (ℕ × Tree))) (f : Sym) → App f ≡ view_of p → CoversEntries kept n (length kept) p begun entries
+      → CoversNewArguments kept n (arguments p) begun rest → CoversNew kept n p begun (entries ++ rest)
   new_root (leaf x) begun entries rest f e one all = absurd (no_app_leaf x f e)
   new_root (app g ps) begun entries rest f e one all = new_app g ps begun entries rest one all
 
@@ -241,14 +260,19 @@ module _ (kept : List Tree) (n : ℕ) where
     abbrev same : (j : ℕ) (q : Tree) → i ≡ j → slice_get ps j ≡ Some q → Some p ≡ Some q
     same j q x e = sym at ∙ (ap (slice_get ps) x ∙ e)
 
-    pivot_cut : (later : List Tree) (z : ℕ → Tree) → AreCutWithin (IsKeptWithin kept 0 n) later z ps 0 i → IsCut (IsKeptWithin kept 0 n) later z p → AreCutWithin (IsKeptWithin kept 0 n) later z ps 0 (i + 1)
+    pivot_cut :
+        (later : List Tree) (z : ℕ → Tree) → AreCutWithin (IsKeptWithin kept 0 n) later z ps 0 i → IsCut (IsKeptWithin kept 0 n) later z p
+        → AreCutWithin (IsKeptWithin kept 0 n) later z ps 0 (i + 1)
     pivot_cut later z before here j q h l e =
         elim (cases_lt j i) [
           | inl x ↦ before j q h x e
           | inr x ↦ (let m : Some p ≡ Some q = same j q (omega (arith, x, l)) e in let is : p ≡ q = cc in subst (IsCut (IsKeptWithin kept 0 n) later z) is here)
         ]
 
-    pivot_settled : (later : List Tree) (z : ℕ → Tree) (s : List (ℕ × Tree)) → ((j : ℕ) (q : Tree) → 0 ≤ j → j < i → slice_get ps j ≡ Some q → IsSettled later z s q) → IsSettled later z s p → ((j : ℕ) (q : Tree) → i + 1 ≤ j → j < length ps → slice_get ps j ≡ Some q → IsSettled later z s q) → AreAllSettled later z s ps
+    pivot_settled :
+        (later : List Tree) (z : ℕ → Tree) (s : List (ℕ × Tree)) → ((j : ℕ) (q : Tree) → 0 ≤ j → j < i → slice_get ps j ≡ Some q → IsSettled later z s q)
+        → IsSettled later z s p → ((j : ℕ) (q : Tree) → i + 1 ≤ j → j < length ps → slice_get ps j ≡ Some q → IsSettled later z s q)
+        → AreAllSettled later z s ps
     pivot_settled later z s before here behind j q e =
         elim (cases_lt j i) [
           | inl x ↦ before j q (omega arith) x e
@@ -259,7 +283,9 @@ module _ (kept : List Tree) (n : ℕ) where
               ]
         ]
 
-    pub pivots_next : (begun found by_pivot whole : List (List (ℕ × Tree))) → CoversPivots ps i begun found → CoversNew kept n p begun by_pivot → CoversAround kept n ps i by_pivot whole → CoversPivots ps (i + 1) begun (found ++ whole)
+    pub pivots_next :
+        (begun found by_pivot whole : List (List (ℕ × Tree))) → CoversPivots ps i begun found → CoversNew kept n p begun by_pivot
+        → CoversAround kept n ps i by_pivot whole → CoversPivots ps (i + 1) begun (found ++ whole)
     pivots_next begun found by_pivot whole first pivot around = record {
       covers = λ later starts z s c a b.
           elim (first.covers later starts z s c a b) [

@@ -18,9 +18,11 @@ use Rattle.dps_static.proofs.Expanding.{expanded_value}
 use Rattle.dps_static.proofs.Closing.{closed_passes}
 use Rattle.dps_static.proofs.Comparing.{carried_to}
 use Rattle.dps_static.proofs.Setting.{IsSetting, setting_of, clean_over}
-use Rattle.dps_static.proofs.Telling.{constructors_below, closed_recipe, kept_low}
+use Rattle.dps_static.proofs.Telling.{closed_recipe, kept_low}
+use Rattle.dps_static.proofs.RuleUses.{constructors_below}
 
-module _ (theory : Theory) (accepted : IsAccepted theory) (plain : HasPlainRules theory) (frame recipes kept : List Tree) (saturation : IsSaturation theory frame recipes kept) (message : Tree) (signature : Signature) (common : IsCommonSignature signature theory frame) (is_message : IsFrame signature (message ∷ [])) where
+module _ (theory : Theory) (accepted : IsAccepted theory) (plain : HasPlainRules theory) (frame recipes kept : List Tree) (saturation : IsSaturation theory frame recipes kept) (message : Tree)
+    (signature : Signature) (common : IsCommonSignature signature theory frame) (is_message : IsFrame signature (message ∷ [])) where
   abbrev setting : IsSetting signature theory
   setting = setting_of signature theory frame accepted plain common
 
@@ -41,7 +43,8 @@ module _ (theory : Theory) (accepted : IsAccepted theory) (plain : HasPlainRules
       let is_plain = message_clean.plain zero message refl in
       let built : IsConstructorTerm theory.shapes w =
       constructors_below theory kept w (subst (IsConstructorTerm theory.shapes) (sym b.gives) (built_weaker IsName (HasShape theory.shapes Constructor) AnyLeaf message is_plain (λ x h. tt))) in (
-        closed_recipe signature theory setting frame common.is_frame recipes kept are_recipes are_values w is_way (subst (IsOver signature) (sym b.gives) (message_over signature (message ∷ []) is_message zero message refl)),
+        closed_recipe signature theory setting frame common.is_frame recipes kept are_recipes are_values w is_way
+            (subst (IsOver signature) (sym b.gives) (message_over signature (message ∷ []) is_message zero message refl)),
         subst (HasValue theory frame (put_entries recipes w)) b.gives (expanded_value theory frame recipes kept are_values w is_way built),
       )
 
@@ -49,5 +52,6 @@ module _ (theory : Theory) (accepted : IsAccepted theory) (plain : HasPlainRules
   not_built nothing r h =
       let are_recipes = saturation.known.are_recipes signature common in
       let low = kept_low signature theory setting frame common.is_frame recipes kept are_recipes are_values in
-      let c = carried_to theory plain accepted kept kept low low (closed_passes theory kept saturation.closed) frame frame clean clean refl saturation.known.starts saturation.known.starts signature r message h.0 h.1 in
+      let c = carried_to theory plain accepted kept kept low low (closed_passes theory kept saturation.closed) frame frame clean clean refl saturation.known.starts saturation.known.starts
+      signature r message h.0 h.1 in
       nothing c.way (record { is_way = c.is_way; gives = c.gives })

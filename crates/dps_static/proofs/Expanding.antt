@@ -46,11 +46,17 @@ module _ (theory : Theory) (frame recipes kept : List Tree) (values : AreValuesO
     expanded_value (leaf x) h c = expanded_leaf x h
     expanded_value (app f ws) h c = constructed (subst (HasShape theory.shapes Constructor f) (same_count ws) c.0) (expanded_values ws h.0.1 h.1.1 c.1)
 
-    pub expanded_values : (ws : Trees) → AreBuiltOf IsNoVariable AnySymbol ws → AreBuiltOf (IsKnowledgeLeaf AnyName NoRigidName (length kept)) AnySymbol ws → AreConstructorTerms theory.shapes ws → EvaluateAll theory (replace_all (handles_to frame) (replace_all (entries_to recipes) ws)) (replace_all (entries_to kept) ws)
+    pub expanded_values :
+        (ws : Trees) → AreBuiltOf IsNoVariable AnySymbol ws → AreBuiltOf (IsKnowledgeLeaf AnyName NoRigidName (length kept)) AnySymbol ws
+        → AreConstructorTerms theory.shapes ws
+        → EvaluateAll theory (replace_all (handles_to frame) (replace_all (entries_to recipes) ws)) (replace_all (entries_to kept) ws)
     expanded_values none h k c = no_terms
     expanded_values (more w ws) h k c = a_term (expanded_value w (h.0, k.0) c.0) (expanded_values ws h.1 k.1 c.1)
 
   -- a destructor over such ways
-  pub expanded_root : (g : Sym) (ws : Trees) (v : Tree) → HasShape theory.shapes Destructor g (count ws) → AreBuiltOf IsNoVariable AnySymbol ws → AreBuiltOf (IsKnowledgeLeaf AnyName NoRigidName (length kept)) AnySymbol ws → AreConstructorTerms theory.shapes ws → Reduces theory g (replace_all (entries_to kept) ws) v → HasValue theory frame (put_entries recipes (app g ws)) v
+  pub expanded_root :
+      (g : Sym) (ws : Trees) (v : Tree) → HasShape theory.shapes Destructor g (count ws) → AreBuiltOf IsNoVariable AnySymbol ws
+      → AreBuiltOf (IsKnowledgeLeaf AnyName NoRigidName (length kept)) AnySymbol ws → AreConstructorTerms theory.shapes ws
+      → Reduces theory g (replace_all (entries_to kept) ws) v → HasValue theory frame (put_entries recipes (app g ws)) v
   expanded_root g ws v shape h k c r =
       reduced (replace_all (entries_to kept) ws) (subst (HasShape theory.shapes Destructor g) (same_count ws) shape) (expanded_values ws h k c) r

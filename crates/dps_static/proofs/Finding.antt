@@ -42,7 +42,8 @@ restricted_keeps : (free : List ℕ) (z : ℕ → Tree) → Keeps free (restrict
 restricted_keeps free z n h = elim (restricted_cases free z n) [ inl c ↦ absurd (h c.0) | inr e ↦ e ]
 
 module _ (kept : List Tree) (free : List ℕ) (p : Tree) (frees : HasFreeVariables free p) where
-  module _ (first last : ℕ) (start found : List (List (ℕ × Tree))) (parts : All (BindsParts kept free) start) (listed : (s : List (ℕ × Tree)) (t : Tree) → Contains start s → IsKeptWithin kept first last t → IsListed free p found s t) where
+  module _ (first last : ℕ) (start found : List (List (ℕ × Tree))) (parts : All (BindsParts kept free) start)
+      (listed : (s : List (ℕ × Tree)) (t : Tree) → Contains start s → IsKeptWithin kept first last t → IsListed free p found s t) where
     module _ (z : ℕ → Tree) (s : List (ℕ × Tree)) (h : Contains start s) (a : Agrees z s) where
       abbrev y : ℕ → Tree
       y = restricted free z
@@ -112,7 +113,9 @@ module _ (kept : List Tree) (free : List ℕ) (p : Tree) (frees : HasFreeVariabl
     match_binds = record { parts = match_part; frees = match_free }
 
   -- and so do all matches
-  pub matches_bind : (start found : List (List (ℕ × Tree))) (k : ℕ) (t : Tree) → slice_get kept k ≡ Some t → All (BindsParts kept free) start → AreMatches free p t start found → All (BindsParts kept free) found
+  pub matches_bind :
+      (start found : List (List (ℕ × Tree))) (k : ℕ) (t : Tree) → slice_get kept k ≡ Some t → All (BindsParts kept free) start → AreMatches free p t start found
+      → All (BindsParts kept free) found
   matches_bind start found k t there parts matches = λ i d l.
       let m = matches.only (get_or found i d) (Contains-get_or found i d l) in
       match_binds m.start (All-contains (BindsParts kept free) start m.start parts m.listed) k t there (get_or found i d) m.matched
@@ -121,7 +124,9 @@ pub binds_nothing : (kept : List Tree) (free : List ℕ) → BindsParts kept fre
 binds_nothing kept free = record { parts = λ n t e. cc; frees = λ n t e. cc }
 
 -- later kept trees do not matter
-pub binds_later : (kept later : List Tree) (free : List ℕ) (s : List (ℕ × Tree)) → ((k : ℕ) (t : Tree) → slice_get kept k ≡ Some t → slice_get later k ≡ Some t) → BindsParts kept free s → BindsParts later free s
+pub binds_later :
+    (kept later : List Tree) (free : List ℕ) (s : List (ℕ × Tree)) → ((k : ℕ) (t : Tree) → slice_get kept k ≡ Some t → slice_get later k ≡ Some t)
+    → BindsParts kept free s → BindsParts later free s
 binds_later kept later free s h b = record {
   parts = λ n t e. let p = b.parts n t e in record { place = p.place; whole = p.whole; there = h p.place p.whole p.there; within = p.within };
   frees = b.frees;

@@ -33,7 +33,9 @@ module _ (kept counterparts : List Tree) (lengths : length kept ≡ length count
       let m : p.place ≡ q.place = first_is_one kept tree p.place q.place p.first q.first in
       let n : Some t ≡ Some u = sym p.there ∙ ap (slice_get counterparts) m ∙ q.there in cc
 
-  entry_and_composed : (tree : Tree) → ((v w : Tree) → Composes kept tree v → Composes kept tree w → put_entries counterparts v ≡ put_entries counterparts w) → (v w : Tree) → IsEntryWay kept tree v → Composes kept tree w → put_entries counterparts v ≡ put_entries counterparts w
+  entry_and_composed :
+      (tree : Tree) → ((v w : Tree) → Composes kept tree v → Composes kept tree w → put_entries counterparts v ≡ put_entries counterparts w) → (v w : Tree)
+      → IsEntryWay kept tree v → Composes kept tree w → put_entries counterparts v ≡ put_entries counterparts w
   entry_and_composed tree alike v w a c =
       let d = counterpart a.place tree a.there in
       let value : put_entries counterparts v ≡ d.tree = ap (put_entries counterparts) a.is ∙ numbered-there counterparts a.place d.tree _ d.there in
@@ -45,7 +47,9 @@ module _ (kept counterparts : List Tree) (lengths : length kept ≡ length count
       by_cases t e (inr b) = e ∙ sym b.gives ∙ alike b.way w b.composes c
 
   -- ways that build one tree, where composed ones are alike
-  any_alike : (tree : Tree) → ((v w : Tree) → Composes kept tree v → Composes kept tree w → put_entries counterparts v ≡ put_entries counterparts w) → (v w : Tree) → IsEntryWay kept tree v ⊎ Composes kept tree v → IsEntryWay kept tree w ⊎ Composes kept tree w → put_entries counterparts v ≡ put_entries counterparts w
+  any_alike :
+      (tree : Tree) → ((v w : Tree) → Composes kept tree v → Composes kept tree w → put_entries counterparts v ≡ put_entries counterparts w) → (v w : Tree)
+      → IsEntryWay kept tree v ⊎ Composes kept tree v → IsEntryWay kept tree w ⊎ Composes kept tree w → put_entries counterparts v ≡ put_entries counterparts w
   any_alike tree alike v w (inl a) (inl b) =
       let d = counterpart a.place tree a.there in
       let e = counterpart b.place tree b.there in

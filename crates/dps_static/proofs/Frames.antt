@@ -110,7 +110,9 @@ module _ (signature : Signature) where
       subst (IsRecipe signature m) (sym (get_or_from_slice_get (handles m) k _ d (handle_at m k l))) (handle_is_recipe m k l)
 
 -- a right answer is the right one
-pub answers_decide : (signature : Signature) (theory : Theory) (first second : List Tree) (answer : Comparison) → IsAnswer signature theory first second answer → (answer ≡ Same) ↔ AreStaticallyEquivalent signature theory first second
+pub answers_decide :
+    (signature : Signature) (theory : Theory) (first second : List Tree) (answer : Comparison) → IsAnswer signature theory first second answer
+    → (answer ≡ Same) ↔ AreStaticallyEquivalent signature theory first second
 answers_decide signature theory first second Same h = (λ e. h, λ e. refl)
 answers_decide signature theory first second (Differ test) h =
     (λ e. cc, λ e. absurd (not_told_apart signature theory first second (test_of test, h) e))

@@ -1,7 +1,6 @@
 pub mod Ways
 pub mod Following
 pub mod Frames
-pub mod Digesting
 pub mod Covering
 pub mod Stepping
 pub mod Moving
@@ -14,6 +13,7 @@ pub mod Comparing
 pub mod Setting
 pub mod Renamed
 pub mod Telling
+pub mod RuleUses
 pub mod Reaching
 pub mod Numbers
 pub mod Carried
@@ -21,9 +21,10 @@ pub mod Used
 pub mod Deducing
 pub mod Refuting
 pub mod Paired
-pub mod Instances
 pub mod Finding
-pub mod Keeping
+pub mod PossibleTrees
 pub mod Ending
-pub mod Growing
+pub mod NewKnowledge
+pub mod AskingARule
+pub mod AskingAllRules
 pub mod Placing

@@ -49,8 +49,10 @@ below_root t g ps n e k = go (subst (StandsIn (var n)) e k)
     go : StandsIn (var n) (app g ps) → IsAmong (leaf (var n)) ps
     go (below m) = m
 
-module _ (theory : Theory) (plain : HasPlainRules theory) (accepted : IsAccepted theory) (kept counterparts : List Tree) (low : HaveNoRigidName kept) (lower : HaveNoRigidName counterparts) (follows : Follows kept counterparts) where
-  module _ (g : Sym) (ws ps : Trees) (rule : Rule) (left : rule.left ≡ app g ps) (listed : HasRule theory rule) (z : ℕ → Tree) (clean : (n : ℕ) → HasNoRigidName (z n)) (s : List (ℕ × Tree)) (agrees : Agrees z s) (settled : AreSettled kept z s ps) where
+module _ (theory : Theory) (plain : HasPlainRules theory) (accepted : IsAccepted theory) (kept counterparts : List Tree) (low : HaveNoRigidName kept) (lower : HaveNoRigidName counterparts)
+    (follows : Follows kept counterparts) where
+  module _ (g : Sym) (ws ps : Trees) (rule : Rule) (left : rule.left ≡ app g ps) (listed : HasRule theory rule) (z : ℕ → Tree) (clean : (n : ℕ) → HasNoRigidName (z n)) (s : List (ℕ × Tree))
+      (agrees : Agrees z s) (settled : AreSettled kept z s ps) where
     filling : Fills kept z s (variables rule.left)
     filling = fills kept z s (variables rule.left) (λ n c. parts_variables kept z s ps settled n (below_root rule.left g ps n left ((variables_are_those rule.left n).0 c)))
 
@@ -86,30 +88,42 @@ module _ (theory : Theory) (plain : HasPlainRules theory) (accepted : IsAccepted
           subst (λ t. filled (by_kept f) (substitute (generic s) t) ≡ substitute z t) left left_filled in
           cc
 
-      moved : AreOpenWays (length kept) ws → substitute_all z ps ≡ put_all kept ws → (h : HasOpenWays kept (substitute_all (generic s) ps)) → Moves theory kept counterparts g h.ways (substitute (generic s) rule.right) → Moves theory kept counterparts g ws (substitute z rule.right)
+      moved :
+          AreOpenWays (length kept) ws → substitute_all z ps ≡ put_all kept ws → (h : HasOpenWays kept (substitute_all (generic s) ps))
+          → Moves theory kept counterparts g h.ways (substitute (generic s) rule.right) → Moves theory kept counterparts g ws (substitute z rule.right)
       moved are e h m =
           let there = filled_ways (length kept) f.way f.are_ways h.ways h.are_ways.known h.are_ways.closed in
           let same : put_all kept (all_filled f.way h.ways) ≡ put_all kept ws = put_all_filled kept low f.way h.ways ∙ (ap (all_filled (by_kept f)) h.give ∙ (patterns_filled ∙ e)) in
           let alike : app g (put_all counterparts (all_filled f.way h.ways)) ≡ app g (put_all counterparts ws) =
           follows.stays (app g (all_filled f.way h.ways)) (app g ws) ((tt, there.0), (tt, there.1)) ((tt, are.known), (tt, are.closed)) (ap (app g) same) in
           let alike_below : put_all counterparts (all_filled f.way h.ways) ≡ put_all counterparts ws = cc in
-          let reduced = replaced_reduct theory (rigid_names_to (λ k. put_entries counterparts (f.way k))) (keeps (λ k. put_entries counterparts (f.way k))) g (put_all counterparts h.ways) (put_entries counterparts m.way) m.reduces in
+          let reduced = replaced_reduct theory (rigid_names_to (λ k. put_entries counterparts (f.way k))) (keeps (λ k. put_entries counterparts (f.way k))) g (put_all counterparts h.ways)
+          (put_entries counterparts m.way) m.reduces in
           let from = sym (put_all_filled counterparts lower f.way h.ways) ∙ alike_below in
           let to = sym (put_filled counterparts lower f.way m.way) in
           record {
             way = filled f.way m.way;
             is_way = filled_way (length kept) f.way f.are_ways m.way m.is_way;
             gives = put_filled kept low f.way m.way ∙ (ap (filled (by_kept f)) m.gives ∙ right_filled);
-            reduces = subst (λ v. Reduces theory g (put_all counterparts ws) v) to (subst (λ vs. Reduces theory g vs (filled (λ k. put_entries counterparts (f.way k)) (put_entries counterparts m.way))) from reduced);
+            reduces =
+                subst
+                (λ v. Reduces theory g (put_all counterparts ws) v)
+                to
+                (subst (λ vs. Reduces theory g vs (filled (λ k. put_entries counterparts (f.way k)) (put_entries counterparts m.way))) from reduced);
           }
 
-    pub rule_moves : AreOpenWays (length kept) ws → substitute_all z ps ≡ put_all kept ws → IsPassed theory kept counterparts g ps rule.right s → Moves theory kept counterparts g ws (substitute z rule.right)
+    pub rule_moves :
+        AreOpenWays (length kept) ws → substitute_all z ps ≡ put_all kept ws → IsPassed theory kept counterparts g ps rule.right s
+        → Moves theory kept counterparts g ws (substitute z rule.right)
     rule_moves are e p =
         let h = built_ways kept (substitute_all (generic s) ps) (settled_built kept z s agrees ps settled) in
         moved filling are e h (p.passed h.ways h.are_ways h.give)
 
 -- One way to build the patterns' generic instance tells of all of them.
-pub passed_by_one : (theory : Theory) (kept counterparts : List Tree) (g : Sym) (ps : Trees) (right : Tree) (s : List (ℕ × Tree)) (ws : Trees) → Follows kept counterparts → AreOpenWays (length kept) ws → put_all kept ws ≡ substitute_all (generic s) ps → Moves theory kept counterparts g ws (substitute (generic s) right) → IsPassed theory kept counterparts g ps right s
+pub passed_by_one :
+    (theory : Theory) (kept counterparts : List Tree) (g : Sym) (ps : Trees) (right : Tree) (s : List (ℕ × Tree)) (ws : Trees) → Follows kept counterparts
+    → AreOpenWays (length kept) ws → put_all kept ws ≡ substitute_all (generic s) ps → Moves theory kept counterparts g ws (substitute (generic s) right)
+    → IsPassed theory kept counterparts g ps right s
 passed_by_one theory kept counterparts g ps right s ws follows are e m = record {
   passed = λ ways h d.
       let alike : app g (put_all counterparts ws) ≡ app g (put_all counterparts ways) =
@@ -124,5 +138,7 @@ passed_by_one theory kept counterparts g ps right s ws follows are e m = record 
 }
 
 -- Where nothing builds the patterns' generic instance, there is nothing to pass.
-pub passed_by_none : (theory : Theory) (kept counterparts : List Tree) (g : Sym) (ps : Trees) (right : Tree) (s : List (ℕ × Tree)) → ¬ AreBuilt kept (substitute_all (generic s) ps) → IsPassed theory kept counterparts g ps right s
+pub passed_by_none :
+    (theory : Theory) (kept counterparts : List Tree) (g : Sym) (ps : Trees) (right : Tree) (s : List (ℕ × Tree))
+    → ¬ AreBuilt kept (substitute_all (generic s) ps) → IsPassed theory kept counterparts g ps right s
 passed_by_none theory kept counterparts g ps right s h = record { passed = λ ways are e. absurd (h (ways_built kept ways (substitute_all (generic s) ps) are e)) }

@@ -1,7 +1,7 @@
 -- Numbers of names, as they are collected and as new ones are chosen.
-use Rattle.std.proofs.Common.{◌≡◌, ℕ, zero, suc, ◌+◌, ◌<◌, ◌≤◌, List, [], ◌∷◌, ◌++◌, drop, map, take, length, slice_get, nat_eq, Some, refl, sym, ◌∙◌, ap, subst, arith, inl, inr, true, false}
+use Rattle.std.proofs.Common.{◌≡◌, ℕ, zero, suc, ◌+◌, ◌<◌, ◌≤◌, List, [], ◌∷◌, ◌++◌, drop, length, slice_get, nat_eq, Some, refl, sym, ◌∙◌, ap, subst, arith, inl, inr, true, false}
 use Rattle.std.specs.Prelude.{◌⊎◌, Contains, cond, ⊤}
-use Rattle.std.proofs.lemmas.List.{drop_all, drop_more, take_all}
+use Rattle.std.proofs.lemmas.List.{drop_all, drop_more}
 use Rattle.std.proofs.lemmas.Bool.{cases_Bool, cases_lt, eqb-true, eq-eqb}
 use Rattle.std.proofs.lemmas.List.Elements.{Contains-append_left, Contains-push, Contains-push_cases}
 use Rattle.std.proofs.lemmas.Option.{slice_get_within, slice_get-get_or, get_or_from_slice_get}
@@ -9,12 +9,10 @@ use Rattle.dps_terms.specs.declared.Sym.{Sym}
 use Rattle.dps_terms.specs.declared.PublicName.TheVariants.{Declared, At}
 use Rattle.dps_terms.specs.declared.borrowed.TermView.{TermView}
 use Rattle.dps_terms.specs.declared.borrowed.TermView.TheVariants.{App, Public, Private, Var, Ax, Entry, Rigid}
-use Rattle.dps_terms.specs.Tree.{Leaf, public, private, var, ax, entry, rigid, Tree, Trees, leaf, app, none, more, list_of, trees, StandsIn, IsAmong, below, in_first, in_rest}
+use Rattle.dps_terms.specs.Tree.{Leaf, public, private, var, ax, entry, rigid, Tree, Trees, leaf, app, none, more, list_of, StandsIn, IsAmong, below, in_first, in_rest}
 use Rattle.dps_terms.specs.Views.{view_of, arguments}
-use Rattle.dps_terms.specs.Replace.{replace, replace_all, rigid_names_to}
 use Rattle.dps_unify.proofs.Trees.{in_leaf}
-use Rattle.dps_static.specs.Naming.{newly, renamed, Adds, AreRising, IsNamed, AreNamed, AreNew, number_of}
-use Rattle.dps_static.proofs.Ways.{trees-list_of, no_app_leaf}
+use Rattle.dps_static.specs.Naming.{Adds, AreRising, IsNamed, AreNamed, AreNew, number_of}
 use Rattle.dps_static.specs.declared.naming.NewName.{NewName}
 use Rattle.dps_static.specs.declared.naming.Numbers.{Numbers}
 
@@ -181,7 +179,9 @@ before_further : (end later n k : ℕ) (names : List NewName) → AreBefore end 
 before_further end later n k [] b h l = (l, tt)
 before_further end later n k (name ∷ names) b h l = ((let m = b.0 in omega (arith, m, h)), before_further end later n k names b.1 h l)
 
-pub named_next : (wanted taken : List ℕ) (names new : List NewName) (end n k i : ℕ) → slice_get wanted i ≡ Some k → end ≤ n → (¬ Contains taken n) → new ≡ names ++ record { rigid = k; number = n } ∷ [] → AreNamedFirst wanted taken names end i → AreNamedFirst wanted taken new (n + 1) (i + 1)
+pub named_next :
+    (wanted taken : List ℕ) (names new : List NewName) (end n k i : ℕ) → slice_get wanted i ≡ Some k → end ≤ n → (¬ Contains taken n)
+    → new ≡ names ++ record { rigid = k; number = n } ∷ [] → AreNamedFirst wanted taken names end i → AreNamedFirst wanted taken new (n + 1) (i + 1)
 named_next wanted taken names new end n k i e l free is first = subst (λ ns. AreNamedFirst wanted taken ns (n + 1) (i + 1)) (sym is) (record {
   rise = rising_further 0 end n k names first.rise first.before (omega arith) l;
   before = before_further end (n + 1) n k names first.before (omega arith) (omega arith);
@@ -263,7 +263,9 @@ not_named n (name ∷ names) h =
       | inr b ↦ rw b (not_named n names (λ one c. h one (suc c.0, (let l = c.1 in omega (arith, l)), c.2)))
     ]
 
-pub are_new : (old one_added added : Numbers) (one other : Tree) (names : List NewName) → Adds old one_added one → Adds one_added added other → AreNamed added.rigid.items added.own.items names → AreNew (number_of names) one other
+pub are_new :
+    (old one_added added : Numbers) (one other : Tree) (names : List NewName) → Adds old one_added one → Adds one_added added other
+    → AreNamed added.rigid.items added.own.items names → AreNew (number_of names) one other
 are_new old one_added added one other names first second named = record {
   back = rigid_of names;
   rigid_names = λ k h. told_back 0 k names named.rise (named.named k (rigid_there k h));
@@ -286,7 +288,9 @@ pub number_here : (names : List NewName) (i k : ℕ) (name : NewName) → slice_
 number_here names i k name e before same =
     sym before ∙ (ap (λ ns. number_of ns k) (drop_at names i name e) ∙ (rw (eq-eqb name.rigid k same) refl))
 
-pub number_later : (names : List NewName) (i k : ℕ) (name : NewName) → slice_get names i ≡ Some name → number_of (drop i names) k ≡ number_of names k → (name.rigid ≡ k → ⊥) → number_of (drop (i + 1) names) k ≡ number_of names k
+pub number_later :
+    (names : List NewName) (i k : ℕ) (name : NewName) → slice_get names i ≡ Some name → number_of (drop i names) k ≡ number_of names k → (name.rigid ≡ k → ⊥)
+    → number_of (drop (i + 1) names) k ≡ number_of names k
 number_later names i k name e before other =
     elim (cases_Bool (nat_eq name.rigid k)) [
       | inl b ↦ absurd (other (eqb-true name.rigid k b))
@@ -297,32 +301,3 @@ number_later names i k name e before other =
 
 pub number_none : (names : List NewName) (i k : ℕ) → length names ≤ i → number_of (drop i names) k ≡ number_of names k → 0 ≡ number_of names k
 number_none names i k h before = ap (λ ns. number_of ns k) (sym (drop_all i names h)) ∙ before
-
--- a tree with new names, root by root
-replace_all-list_of : (f : Leaf → Tree) (ts : Trees) → list_of (replace_all f ts) ≡ map (replace f) (list_of ts)
-replace_all-list_of f none = refl
-replace_all-list_of f (more t ts) = λ i. replace f t ∷ replace_all-list_of f ts i
-
-pub renamed_whole : (names : ℕ → ℕ) (t : Tree) (f : Sym) (made : List Tree) (i : ℕ) → App f ≡ view_of t → made ≡ map (renamed names) (take i (arguments t)) → length (arguments t) ≤ i → app f (trees made) ≡ renamed names t
-renamed_whole names (leaf x) f made i v e h = absurd (no_app_leaf x f v)
-renamed_whole names (app g ts) f made i v e h =
-    let m : f ≡ g = cc in
-    λ j. app (m j) ((ap trees (e ∙ ap (map (renamed names)) (take_all i (list_of ts) h) ∙ sym (replace_all-list_of (rigid_names_to (newly names)) ts)) ∙ trees-list_of (replace_all (rigid_names_to (newly names)) ts)) j)
-
-pub renamed_rigid : (names : ℕ → ℕ) (t : Tree) (k : ℕ) → Rigid k ≡ view_of t → leaf (public (At (names k))) ≡ renamed names t
-renamed_rigid names (leaf (rigid a)) k v = let m : k ≡ a = cc in ap (λ n. leaf (public (At (names n)))) m
-renamed_rigid names (leaf (public a)) k v = cc
-renamed_rigid names (leaf (private a)) k v = cc
-renamed_rigid names (leaf (var a)) k v = cc
-renamed_rigid names (leaf (ax a)) k v = cc
-renamed_rigid names (leaf (entry a)) k v = cc
-renamed_rigid names (app f ts) k v = cc
-
-pub renamed_other : (names : ℕ → ℕ) (t : Tree) → ((f : Sym) → App f ≡ view_of t → ⊥) → ((k : ℕ) → Rigid k ≡ view_of t → ⊥) → t ≡ renamed names t
-renamed_other names (leaf (rigid a)) no_app no_rigid = absurd (no_rigid a refl)
-renamed_other names (leaf (public a)) no_app no_rigid = refl
-renamed_other names (leaf (private a)) no_app no_rigid = refl
-renamed_other names (leaf (var a)) no_app no_rigid = refl
-renamed_other names (leaf (ax a)) no_app no_rigid = refl
-renamed_other names (leaf (entry a)) no_app no_rigid = refl
-renamed_other names (app f ts) no_app no_rigid = absurd (no_app f refl)

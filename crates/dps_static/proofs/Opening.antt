@@ -57,7 +57,9 @@ module _ (n b : ℕ) where
     way_of (leaf x) h = leaf_way x h
     way_of (app f ws) h = let k = ways_of ws h.0.1 h.1.1 in ((tt, k.0), (tt, k.1))
 
-    pub ways_of : (ws : Trees) → AreBuiltOf (IsKnowledgeLeaf AnyName AnyRigid n) AnySymbol ws → AreBuiltOf IsNoVariable AnySymbol ws → AreBuiltOf IsNoVariable AnySymbol (all_filled (newly b) ws) × AreBuiltOf (IsKnowledgeLeaf AnyName NoRigidName n) AnySymbol (all_filled (newly b) ws)
+    pub ways_of :
+        (ws : Trees) → AreBuiltOf (IsKnowledgeLeaf AnyName AnyRigid n) AnySymbol ws → AreBuiltOf IsNoVariable AnySymbol ws
+        → AreBuiltOf IsNoVariable AnySymbol (all_filled (newly b) ws) × AreBuiltOf (IsKnowledgeLeaf AnyName NoRigidName n) AnySymbol (all_filled (newly b) ws)
     ways_of none h k = (tt, tt)
     ways_of (more w ws) h k =
         let a = way_of w (h.0, k.0) in

@@ -27,13 +27,17 @@ pub record ArePairsFirst (recipes values : List Tree) (pairs : List (Tree × Tre
   pub recipes_are : map (λ pair. pair.0) pairs ≡ take n recipes
   pub values_are : map (λ pair. pair.1) pairs ≡ take n values
 
-taken_further : (F : Tree × Tree → Tree) (pairs : List (Tree × Tree)) (p : Tree × Tree) (ts : List Tree) (n : ℕ) (t : Tree) → map F pairs ≡ take n ts → slice_get ts n ≡ Some t → F p ≡ t → map F (pairs ++ p ∷ []) ≡ take (n + 1) ts
+taken_further :
+    (F : Tree × Tree → Tree) (pairs : List (Tree × Tree)) (p : Tree × Tree) (ts : List Tree) (n : ℕ) (t : Tree) → map F pairs ≡ take n ts
+    → slice_get ts n ≡ Some t → F p ≡ t → map F (pairs ++ p ∷ []) ≡ take (n + 1) ts
 taken_further F pairs p ts n t e there m =
     let h = slice_get_within ts n t there in
     let at : get_or ts n t ≡ t = get_or_from_slice_get ts n t t there in
     map-append F pairs (p ∷ []) ∙ (λ j. e j ++ (m ∙ sym at) j ∷ []) ∙ sym (take_more ts n t h)
 
-pub pairs_next : (recipes values : List Tree) (pairs new : List (Tree × Tree)) (n : ℕ) (r v : Tree) → n < length recipes → n < length values → r ≡ get_or recipes n r → v ≡ get_or values n v → new ≡ pairs ++ (r, v) ∷ [] → ArePairsFirst recipes values pairs n → ArePairsFirst recipes values new (n + 1)
+pub pairs_next :
+    (recipes values : List Tree) (pairs new : List (Tree × Tree)) (n : ℕ) (r v : Tree) → n < length recipes → n < length values → r ≡ get_or recipes n r
+    → v ≡ get_or values n v → new ≡ pairs ++ (r, v) ∷ [] → ArePairsFirst recipes values pairs n → ArePairsFirst recipes values new (n + 1)
 pairs_next recipes values pairs new n r v h k a b is first = subst (λ ps. ArePairsFirst recipes values ps (n + 1)) (sym is) (record {
   recipes_are = taken_further one_of pairs (r, v) recipes n r first.recipes_are (slice_get-get_or recipes n r h ∙ ap Some (sym a)) refl;
   values_are = taken_further other_of pairs (r, v) values n v first.values_are (slice_get-get_or values n v k ∙ ap Some (sym b)) refl;
@@ -48,7 +52,8 @@ pairs_all recipes values pairs n h k first = record {
 pair_at : (F : Tree × Tree → Tree) (pairs : List (Tree × Tree)) (ts : List Tree) (k : ℕ) (p : Tree × Tree) → map F pairs ≡ ts → slice_get pairs k ≡ Some p → slice_get ts k ≡ Some (F p)
 pair_at F pairs ts k p e there = ap (λ us. slice_get us k) (sym e) ∙ (slice_get-map F pairs k ∙ ap (option_map F) there)
 
-module _ (theory : Theory) (accepted : IsAccepted theory) (plain : HasPlainRules theory) (frame recipes kept : List Tree) (saturation : IsSaturation theory frame recipes kept) (pairs : List (Tree × Tree)) (are_pairs : ArePairsOf recipes kept pairs) where
+module _ (theory : Theory) (accepted : IsAccepted theory) (plain : HasPlainRules theory) (frame recipes kept : List Tree) (saturation : IsSaturation theory frame recipes kept)
+    (pairs : List (Tree × Tree)) (are_pairs : ArePairsOf recipes kept pairs) where
   over_one : (signature : Signature) → IsCommonSignature signature theory frame → IsSaturatedOver signature theory frame pairs
   over_one signature common =
       let setting : IsSetting signature theory = setting_of signature theory frame accepted plain common in
@@ -65,7 +70,8 @@ module _ (theory : Theory) (accepted : IsAccepted theory) (plain : HasPlainRules
               are_values.values c.0 pair.0 pair.1 r v,
             );
         builds = λ message r h.
-            let k = carried_to theory plain accepted kept kept low low (closed_passes theory kept saturation.closed) frame frame clean clean refl saturation.known.starts saturation.known.starts signature r message h.0 h.1 in
+            let k = carried_to theory plain accepted kept kept low low (closed_passes theory kept saturation.closed) frame frame clean clean refl saturation.known.starts saturation.known.starts
+            signature r message h.0 h.1 in
             let message_low = clean_value theory frame clean signature accepted plain r message h.0 h.1 in
             let w = way_closed kept (length kept) k.way k.is_way (subst HasNoRigidName (sym k.gives) message_low) in
             let b : IsBuiltFrom kept message = record { way = k.way; is_way = w; gives = k.gives } in

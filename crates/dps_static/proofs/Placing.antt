@@ -4,15 +4,17 @@ use Rattle.std.specs.Prelude.{◌⊎◌}
 use Rattle.std.specs.Map.{lookup}
 use Rattle.std.proofs.lemmas.Bool.{eq-eqb}
 use Rattle.dps_terms.specs.Tree.{Tree}
-use Rattle.dps_static.specs.Digest.{digest}
+use Rattle.dps_terms.specs.Digest.{digest}
 use Rattle.dps_static.specs.Places.{ArePlacesOf, IsPlaced}
-use Rattle.dps_static.proofs.Keeping.{push_cases, length_push}
+use Rattle.dps_static.proofs.PossibleTrees.{push_cases, length_push}
 
 lookup_kept : (places : List (ℕ × ℕ)) (p : ℕ × ℕ) (d k : ℕ) → lookup (nat_eq d) places ≡ Some k → lookup (nat_eq d) (places ++ p ∷ []) ≡ Some k
 lookup_kept [] p d k e = cc
 lookup_kept (q ∷ qs) p d k e = go (nat_eq d q.0) e (lookup_kept qs p d k)
   where
-    go : (b : Bool) → cond b (Some q.1) (lookup (nat_eq d) qs) ≡ Some k → (lookup (nat_eq d) qs ≡ Some k → lookup (nat_eq d) (qs ++ p ∷ []) ≡ Some k) → cond b (Some q.1) (lookup (nat_eq d) (qs ++ p ∷ [])) ≡ Some k
+    go :
+        (b : Bool) → cond b (Some q.1) (lookup (nat_eq d) qs) ≡ Some k → (lookup (nat_eq d) qs ≡ Some k → lookup (nat_eq d) (qs ++ p ∷ []) ≡ Some k)
+        → cond b (Some q.1) (lookup (nat_eq d) (qs ++ p ∷ [])) ≡ Some k
     go true h next = h
     go false h next = next h
 
@@ -24,7 +26,10 @@ lookup_cases [] p d k e = inr (go (nat_eq d p.0) e)
     go false h = cc
 lookup_cases (q ∷ qs) p d k e = go (nat_eq d q.0) e (lookup_cases qs p d k)
   where
-    go : (b : Bool) → cond b (Some q.1) (lookup (nat_eq d) (qs ++ p ∷ [])) ≡ Some k → (lookup (nat_eq d) (qs ++ p ∷ []) ≡ Some k → (lookup (nat_eq d) qs ≡ Some k) ⊎ (k ≡ p.1)) → (cond b (Some q.1) (lookup (nat_eq d) qs) ≡ Some k) ⊎ (k ≡ p.1)
+    go :
+        (b : Bool) → cond b (Some q.1) (lookup (nat_eq d) (qs ++ p ∷ [])) ≡ Some k
+        → (lookup (nat_eq d) (qs ++ p ∷ []) ≡ Some k → (lookup (nat_eq d) qs ≡ Some k) ⊎ (k ≡ p.1))
+        → (cond b (Some q.1) (lookup (nat_eq d) qs) ≡ Some k) ⊎ (k ≡ p.1)
     go true h next = inl h
     go false h next = next h
 
@@ -32,7 +37,9 @@ lookup_new : (places : List (ℕ × ℕ)) (d k : ℕ) → lookup (nat_eq d) plac
 lookup_new [] d k e = rw (eq-eqb d d refl) refl
 lookup_new (q ∷ qs) d k e = go (nat_eq d q.0) e (lookup_new qs d k)
   where
-    go : (b : Bool) → cond b (Some q.1) (lookup (nat_eq d) qs) ≡ None → (lookup (nat_eq d) qs ≡ None → lookup (nat_eq d) (qs ++ (d, k) ∷ []) ≡ Some k) → cond b (Some q.1) (lookup (nat_eq d) (qs ++ (d, k) ∷ [])) ≡ Some k
+    go :
+        (b : Bool) → cond b (Some q.1) (lookup (nat_eq d) qs) ≡ None → (lookup (nat_eq d) qs ≡ None → lookup (nat_eq d) (qs ++ (d, k) ∷ []) ≡ Some k)
+        → cond b (Some q.1) (lookup (nat_eq d) (qs ++ (d, k) ∷ [])) ≡ Some k
     go true h next = cc
     go false h next = next h
 
@@ -71,7 +78,9 @@ places_push kept places later tree a p =
       bounded = λ b k e. let h = stay.bounded b k e in omega (arith, h, length_push kept tree);
     }
 
-pub nothing_before : (kept : List Tree) (places : List (ℕ × ℕ)) (tree : Tree) (start k : ℕ) → ArePlacesOf kept places → lookup (nat_eq (digest tree)) places ≡ Some start → k < start → ¬ (slice_get kept k ≡ Some tree)
+pub nothing_before :
+    (kept : List Tree) (places : List (ℕ × ℕ)) (tree : Tree) (start k : ℕ) → ArePlacesOf kept places → lookup (nat_eq (digest tree)) places ≡ Some start
+    → k < start → ¬ (slice_get kept k ≡ Some tree)
 nothing_before kept places tree start k a e l there =
     let h = a.listed k tree there in
     let m : Some h.place ≡ Some start = sym h.there ∙ e in

@@ -27,10 +27,13 @@ use Rattle.dps_static.proofs.Comparing.{at_most}
 use Rattle.dps_static.proofs.Setting.{IsSetting, clean_frame}
 use Rattle.dps_static.proofs.Ways.{AreOpenWays, put_all, trees-list_of}
 use Rattle.dps_static.proofs.Covering.{built_ways}
-use Rattle.dps_static.proofs.Telling.{IsAppUse, IsAppUseOf, app_use, app_use_of, is_there, kept_plain, kept_low, known_use, evaluates_reduces}
+use Rattle.dps_static.proofs.RuleUses.{IsAppUse, IsAppUseOf}
+use Rattle.dps_static.proofs.Telling.{kept_plain, kept_low, known_use}
+use Rattle.dps_static.proofs.RuleUses.{app_use, app_use_of, is_there, evaluates_reduces}
 
 -- the values of recipes that begin with the handles begin with the messages
-module _ (theory : Theory) (frame recipes values : List Tree) (m : ℕ) (is_m : length frame ≡ m) (clean : IsCleanFrame theory frame) (are : AreValuesOf theory frame recipes values) (starts : StartsWith recipes (handles m)) where
+module _ (theory : Theory) (frame recipes values : List Tree) (m : ℕ) (is_m : length frame ≡ m) (clean : IsCleanFrame theory frame) (are : AreValuesOf theory frame recipes values)
+    (starts : StartsWith recipes (handles m)) where
   pub begins_with : StartsWith values frame
   begins_with k t e =
       let within = slice_get_within frame k t e in
@@ -42,7 +45,10 @@ module _ (theory : Theory) (frame recipes values : List Tree) (m : ℕ) (is_m : 
       let is : v.tree ≡ t = plain_alone theory (subst (λ u. Evaluates theory u v.tree) to (are.values k (leaf (ax (suc k))) v.tree at v.there)) (clean.plain k t e) in
       v.there ∙ ap Some is
 
-module _ (signature : Signature) (theory : Theory) (setting : IsSetting signature theory) (first second : List Tree) (lengths : length first ≡ length second) (is_first : IsFrame signature first) (is_second : IsFrame signature second) (recipes kept : List Tree) (are_recipes : All (IsRecipe signature (length first)) recipes) (ours : AreValuesOf theory first recipes kept) (counterparts : List Tree) (theirs : AreValuesOf theory second recipes counterparts) (uses : List RuleUse) (are_uses : AreUsesOf theory kept uses) (pass : AllPass theory kept counterparts uses) where
+module _ (signature : Signature) (theory : Theory) (setting : IsSetting signature theory) (first second : List Tree) (lengths : length first ≡ length second) (is_first : IsFrame signature first)
+    (is_second : IsFrame signature second) (recipes kept : List Tree) (are_recipes : All (IsRecipe signature (length first)) recipes) (ours : AreValuesOf theory first recipes kept)
+    (counterparts : List Tree) (theirs : AreValuesOf theory second recipes counterparts) (uses : List RuleUse) (are_uses : AreUsesOf theory kept uses)
+    (pass : AllPass theory kept counterparts uses) where
   their_recipes : All (IsRecipe signature (length second)) recipes
   their_recipes = subst (λ n. All (IsRecipe signature n) recipes) lengths are_recipes
 

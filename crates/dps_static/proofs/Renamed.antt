@@ -43,7 +43,9 @@ module _ (n : ℕ) (names : ℕ → ℕ) where
     renamed_way (leaf x) h = leaf_way x h
     renamed_way (app f ws) h = let k = renamed_ways ws h.0.1 h.1.1 in ((tt, k.0), (tt, k.1))
 
-    pub renamed_ways : (ws : Trees) → AreBuiltOf (IsKnowledgeLeaf AnyName AnyRigid n) AnySymbol ws → AreBuiltOf IsNoVariable AnySymbol ws → AreBuiltOf IsNoVariable AnySymbol (all_renamed names ws) × AreBuiltOf (IsKnowledgeLeaf AnyName NoRigidName n) AnySymbol (all_renamed names ws)
+    pub renamed_ways :
+        (ws : Trees) → AreBuiltOf (IsKnowledgeLeaf AnyName AnyRigid n) AnySymbol ws → AreBuiltOf IsNoVariable AnySymbol ws
+        → AreBuiltOf IsNoVariable AnySymbol (all_renamed names ws) × AreBuiltOf (IsKnowledgeLeaf AnyName NoRigidName n) AnySymbol (all_renamed names ws)
     renamed_ways none h k = (tt, tt)
     renamed_ways (more w ws) h k =
         let a = renamed_way w (h.0, k.0) in
@@ -69,7 +71,8 @@ module _ (theory : Theory) (names : ℕ → ℕ) where
     constructors_all (more w ws) h = (constructors_stay w h.0, constructors_all ws h.1)
 
 -- the recipes of ways with new names, in a frame
-module _ (theory : Theory) (plain : HasPlainRules theory) (accepted : IsAccepted theory) (names : ℕ → ℕ) (frame recipes kept : List Tree) (values : AreValuesOf theory frame recipes kept) (low : HaveNoRigidName kept) where
+module _ (theory : Theory) (plain : HasPlainRules theory) (accepted : IsAccepted theory) (names : ℕ → ℕ) (frame recipes kept : List Tree) (values : AreValuesOf theory frame recipes kept)
+    (low : HaveNoRigidName kept) where
   pub renamed_value : (w : Tree) → IsOpenWay (length kept) w → IsConstructorTerm theory.shapes w → HasValue theory frame (put_entries recipes (renamed names w)) (renamed names (put_entries kept w))
   renamed_value w is_way built =
       subst (HasValue theory frame (put_entries recipes (renamed names w))) (put_filled kept low (newly names) w)
@@ -122,7 +125,9 @@ module _ (names : ℕ → ℕ) (one other : Tree) (new : AreNew names one other)
   undone_other = replace_undone (rigid_names_to (newly names)) taken_back other (λ x k. undone x (inr k))
 
   -- what reduces with new names reduces with the rigid names
-  pub reduct_back : (theory : Theory) → HasPlainRules theory → (g : Sym) (vs : Trees) (v : Tree) → one ≡ app g vs → Reduces theory g (all_renamed names vs) v → Reduces theory g vs (replace taken_back v)
+  pub reduct_back :
+      (theory : Theory) → HasPlainRules theory → (g : Sym) (vs : Trees) (v : Tree) → one ≡ app g vs → Reduces theory g (all_renamed names vs) v
+      → Reduces theory g vs (replace taken_back v)
   reduct_back theory plain g vs v e r =
       let whole : app g (replace_all taken_back (all_renamed names vs)) ≡ app g vs = subst (λ t. replace taken_back (renamed names t) ≡ t) e undone_one in
       let same : replace_all taken_back (all_renamed names vs) ≡ vs = cc in

@@ -60,7 +60,9 @@ module _ (n : ℕ) (r : ℕ → Tree) (good : (k : ℕ) → IsOpenWay n (r k)) w
     filled_way (leaf x) h = filled_leaf x h
     filled_way (app f ws) h = let k = filled_ways ws h.0.1 h.1.1 in ((tt, k.0), (tt, k.1))
 
-    pub filled_ways : (ws : Trees) → AreBuiltOf (IsKnowledgeLeaf AnyName AnyRigid n) AnySymbol ws → AreBuiltOf IsNoVariable AnySymbol ws → AreBuiltOf (IsKnowledgeLeaf AnyName AnyRigid n) AnySymbol (all_filled r ws) × AreBuiltOf IsNoVariable AnySymbol (all_filled r ws)
+    pub filled_ways :
+        (ws : Trees) → AreBuiltOf (IsKnowledgeLeaf AnyName AnyRigid n) AnySymbol ws → AreBuiltOf IsNoVariable AnySymbol ws
+        → AreBuiltOf (IsKnowledgeLeaf AnyName AnyRigid n) AnySymbol (all_filled r ws) × AreBuiltOf IsNoVariable AnySymbol (all_filled r ws)
     filled_ways none h k = (tt, tt)
     filled_ways (more w ws) h k =
         let a = filled_way w (h.0, k.0) in
@@ -90,14 +92,18 @@ module _ (kept : List Tree) (z : ℕ → Tree) (s : List (ℕ × Tree)) where
   later m n ms b (zero, l, e) = let t : true ≡ false = sym (eq-eqb m n e) ∙ b in cc
   later m n ms b (suc k, l, e) = (k, omega arith, e)
 
-  chosen_gives : (m : ℕ) (ms : List ℕ) (w : Tree) (r : ℕ → Tree) → put_entries kept w ≡ z m → ((n : ℕ) → Contains ms n → bound s n ≡ None → put_entries kept (r n) ≡ z n) → (n : ℕ) → Contains (m ∷ ms) n → bound s n ≡ None → put_entries kept (chosen m w r n) ≡ z n
+  chosen_gives :
+      (m : ℕ) (ms : List ℕ) (w : Tree) (r : ℕ → Tree) → put_entries kept w ≡ z m → ((n : ℕ) → Contains ms n → bound s n ≡ None → put_entries kept (r n) ≡ z n)
+      → (n : ℕ) → Contains (m ∷ ms) n → bound s n ≡ None → put_entries kept (chosen m w r n) ≡ z n
   chosen_gives m ms w r e g n c o =
       elim (cases_Bool (nat_eq m n)) [
         | inl b ↦ rw b (e ∙ ap z (eqb-true m n b))
         | inr b ↦ rw b (g n (later m n ms b c) o)
       ]
 
-  skipped_gives : (m : ℕ) (ms : List ℕ) (t : Tree) (r : ℕ → Tree) → bound s m ≡ Some t → ((n : ℕ) → Contains ms n → bound s n ≡ None → put_entries kept (r n) ≡ z n) → (n : ℕ) → Contains (m ∷ ms) n → bound s n ≡ None → put_entries kept (r n) ≡ z n
+  skipped_gives :
+      (m : ℕ) (ms : List ℕ) (t : Tree) (r : ℕ → Tree) → bound s m ≡ Some t → ((n : ℕ) → Contains ms n → bound s n ≡ None → put_entries kept (r n) ≡ z n)
+      → (n : ℕ) → Contains (m ∷ ms) n → bound s n ≡ None → put_entries kept (r n) ≡ z n
   skipped_gives m ms t r e g n c o =
       elim (cases_Bool (nat_eq m n)) [
         | inl b ↦ let d : Some t ≡ None = sym e ∙ (ap (bound s) (eqb-true m n b) ∙ o) in cc

@@ -1,16 +1,17 @@
 -- Ways by their roots.
-use Rattle.std.proofs.Common.{◌≡◌, ℕ, zero, suc, ◌+◌, ◌<◌, ◌≤◌, List, [], ◌∷◌, ◌++◌, length, slice_get, unwrap_or, get_or, map, take, Option, Some, None, MatchOption, refl, ap, sym, subst, ◌∙◌, inl, inr, arith}
+use Rattle.std.proofs.Common.{◌≡◌, ℕ, zero, suc, ◌+◌, ◌<◌, ◌≤◌, List, [], ◌∷◌, ◌++◌, length, slice_get, unwrap_or, get_or, map}
+use Rattle.std.proofs.Common.{take, drop, Bool, true, false, MatchBool, Some, refl, ap, sym, subst, ◌∙◌, inl, inr, arith, drop-cons}
 use Rattle.std.specs.Prelude.{◌⊎◌}
 use Rattle.std.specs.Option.{option_map}
-use Rattle.std.proofs.lemmas.List.{map-append, length-map, take_all, take_more}
+use Rattle.std.proofs.lemmas.List.{map-append, length-map, length-append, take_all, take_more, take_at, drop_at}
 use Rattle.std.proofs.lemmas.Option.{none-some, slice_get_within, slice_get-get_or, unwrap_or-slice_get, get_or_from_slice_get, slice_get-map}
 use Rattle.dps_terms.specs.declared.Sym.{Sym}
 use Rattle.dps_terms.specs.declared.borrowed.TermView.TheVariants.{App}
 use Rattle.dps_terms.specs.Tree.{Leaf, public, private, var, ax, entry, rigid, Tree, Trees, leaf, app, none, more, list_of, trees}
 use Rattle.dps_terms.specs.Views.{leaf_view, view_of, arguments}
 use Rattle.dps_terms.specs.Replace.{replace_all, numbered, entries_to, put_entries}
-use Rattle.dps_terms.specs.Kinds.{IsBuiltOf, AreBuiltOf, AnySymbol, IsNoVariable, IsKnowledgeLeaf, NoRigidName}
-use Rattle.dps_static.specs.Ways.{AnyName, AnyRigid, IsOpenWay, Builds, IsNotBuilt, Composes, IsNotComposed, IsFirst, IsNotKept}
+use Rattle.dps_terms.specs.Kinds.{AreBuiltOf, AnySymbol, IsNoVariable, IsKnowledgeLeaf, NoRigidName}
+use Rattle.dps_static.specs.Ways.{AnyName, AnyRigid, Builds, IsNotBuilt, Composes, IsNotComposed, PutsWay, PutsComposed, IsFirst, IsNotKept}
 
 -- a list of ways
 pub record AreWays (n : ℕ) (ways : Trees) : Type 0 where
@@ -96,28 +97,29 @@ pub record AreListedWays (n : ℕ) (ways : List Tree) : Type 0 where
   pub known : AreBuiltOf (IsKnowledgeLeaf AnyName AnyRigid n) AnySymbol (trees ways)
   pub closed : AreBuiltOf IsNoVariable AnySymbol (trees ways)
 
-built_further : (L : Leaf → Type 0) (ts : List Tree) (t : Tree) → AreBuiltOf L AnySymbol (trees ts) → IsBuiltOf L AnySymbol t → AreBuiltOf L AnySymbol (trees (ts ++ t ∷ []))
-built_further L [] t a b = (b, tt)
-built_further L (u ∷ ts) t a b = (a.0, built_further L ts t a.1 b)
+-- the ways of the last arguments, put in front one after another
+pub record ArePutWays (kept ts old new : List Tree) : Type 0 where
+  pub ways : List Tree
+  pub listed : AreListedWays (length kept) ways
+  pub give : map (put_entries kept) ways ≡ ts
+  pub put : new ≡ ways ++ old
 
-pub listed_further : (n : ℕ) (ways : List Tree) (way : Tree) → AreListedWays n ways → IsOpenWay n way → AreListedWays n (ways ++ way ∷ [])
-listed_further n ways way a w = record {
-  known = built_further (IsKnowledgeLeaf AnyName AnyRigid n) ways way a.known w.0;
-  closed = built_further IsNoVariable ways way a.closed w.1;
-}
+pub no_ways_put : (kept ts old : List Tree) → ts ≡ [] → ArePutWays kept ts old old
+no_ways_put kept ts old e = record { ways = []; listed = record { known = tt; closed = tt }; give = sym e; put = refl }
 
--- what one more way gives
-pub given_further : (F : Tree → Tree) (ways : List Tree) (way tree : Tree) (ts : List Tree) (i : ℕ) → map F ways ≡ take i ts → slice_get ts i ≡ Some tree → F way ≡ tree → map F (ways ++ way ∷ []) ≡ take (i + 1) ts
-given_further F ways way tree ts i e there m =
-    let h = slice_get_within ts i tree there in
-    let at : get_or ts i tree ≡ tree = get_or_from_slice_get ts i tree tree there in
-    map-append F ways (way ∷ [])
-    ∙ (λ j. e j ++ (m ∙ sym at) j ∷ [])
-    ∙ sym (take_more ts i tree h)
-
--- the whole of an argument list
-pub all_taken : (F : Tree → Tree) (ways ts : List Tree) (i : ℕ) → map F ways ≡ take i ts → length ts ≤ i → map F ways ≡ ts
-all_taken F ways ts i e h = e ∙ take_all i ts h
+pub one_way_put :
+    (kept ts old now new : List Tree) (i : ℕ) (t : Tree) → slice_get ts i ≡ Some t → ArePutWays kept (drop (i + 1) ts) old now → PutsWay kept t now new
+    → ArePutWays kept (drop i ts) old new
+one_way_put kept ts old now new i t there behind p =
+    let here : drop i ts ≡ t ∷ drop (i + 1) ts =
+    drop-cons ts i t (slice_get_within ts i t there)
+    ∙ (λ j. get_or_from_slice_get ts i t t there j ∷ drop ((let e : suc i ≡ i + 1 = omega arith in e) j) ts) in
+    rw here (record {
+      ways = p.way ∷ behind.ways;
+      listed = record { known = (p.builds.is_way.0, behind.listed.known); closed = (p.builds.is_way.1, behind.listed.closed) };
+      give = (λ j. p.builds.gives j ∷ behind.give j);
+      put = p.put ∙ ap (λ us. p.way ∷ us) behind.put;
+    })
 
 pub put_all-trees : (kept ts : List Tree) → put_all kept (trees ts) ≡ trees (map (put_entries kept) ts)
 put_all-trees kept [] = refl
@@ -137,7 +139,9 @@ no_app_leaf (entry n) f v = cc
 no_app_leaf (rigid n) f v = cc
 
 -- a symbol over ways that build the arguments
-pub composes_app : (kept : List Tree) (f : Sym) (tree : Tree) (ways : List Tree) → App f ≡ view_of tree → AreListedWays (length kept) ways → map (put_entries kept) ways ≡ arguments tree → Composes kept tree (app f (trees ways))
+pub composes_app :
+    (kept : List Tree) (f : Sym) (tree : Tree) (ways : List Tree) → App f ≡ view_of tree → AreListedWays (length kept) ways
+    → map (put_entries kept) ways ≡ arguments tree → Composes kept tree (app f (trees ways))
 composes_app kept f (app g ts) ways v a e =
     let m : f ≡ g = cc in
     record {
@@ -149,8 +153,29 @@ composes_app kept f (app g ts) ways v a e =
     }
 composes_app kept f (leaf x) ways v a e = absurd (no_app_leaf x f v)
 
+-- the ways of all arguments are in front
+pub all_in_front : (kept ts old new : List Tree) (n : ℕ) → n ≡ length ts → ArePutWays kept ts old new → n ≤ length new
+all_in_front kept ts old new n e p =
+    let many : length p.ways ≡ length ts = sym (length-map p.ways (put_entries kept)) ∙ ap length p.give in
+    omega (arith, e, many, ap length p.put, length-append p.ways old)
+
+pub composed_put :
+    (kept old now new : List Tree) (f : Sym) (tree : Tree) (n : ℕ) → App f ≡ view_of tree → n ≡ length (arguments tree)
+    → ArePutWays kept (arguments tree) old now → new ≡ app f (trees (take n now)) ∷ drop n now → PutsComposed kept tree old new
+composed_put kept old now new f tree n v e p put =
+    let many : length p.ways ≡ n = sym (length-map p.ways (put_entries kept)) ∙ ap length p.give ∙ sym e in
+    let front : take n now ≡ p.ways = ap (take n) p.put ∙ take_at p.ways old n many in
+    let rest : drop n now ≡ old = ap (drop n) p.put ∙ drop_at p.ways old n many in
+    record {
+      way = app f (trees p.ways);
+      composes = composes_app kept f tree p.ways v p.listed p.give;
+      put = put ∙ (λ j. app f (trees (front j)) ∷ rest j);
+    }
+
 -- where an argument is built in no way, the tree is composed in none
-nth_way : (kept : List Tree) (ts ways : Trees) (i : ℕ) (tree : Tree) → AreOpenWays (length kept) ways → put_all kept ways ≡ ts → slice_get (list_of ts) i ≡ Some tree → (way : Tree) × Builds kept tree way
+nth_way :
+    (kept : List Tree) (ts ways : Trees) (i : ℕ) (tree : Tree) → AreOpenWays (length kept) ways → put_all kept ways ≡ ts → slice_get (list_of ts) i ≡ Some tree
+    → (way : Tree) × Builds kept tree way
 nth_way kept none none i tree a e d = absurd (none-some tree d)
 nth_way kept (more t ts) (more w ws) zero tree a e d =
     let m : put_entries kept w ≡ tree = cc in (w, record { is_way = (a.known.0, a.closed.0); gives = m })
@@ -177,7 +202,9 @@ module _ (kept : List Tree) where
   pub arities_built : (way tree : Tree) (f : Sym) → App f ≡ view_of way → put_entries kept way ≡ tree → length (arguments way) ≡ length (arguments tree)
   arities_built way tree f v e = sym (length-map (arguments way) (put_entries kept)) ∙ ap length (arguments_built way tree f v e)
 
-  pub argument_built : (way tree : Tree) (f : Sym) (i : ℕ) (w t : Tree) → App f ≡ view_of way → put_entries kept way ≡ tree → slice_get (arguments way) i ≡ Some w → slice_get (arguments tree) i ≡ Some t → put_entries kept w ≡ t
+  pub argument_built :
+      (way tree : Tree) (f : Sym) (i : ℕ) (w t : Tree) → App f ≡ view_of way → put_entries kept way ≡ tree → slice_get (arguments way) i ≡ Some w
+      → slice_get (arguments tree) i ≡ Some t → put_entries kept w ≡ t
   argument_built way tree f i w t v e a b =
       let there : slice_get (map (put_entries kept) (arguments way)) i ≡ Some (put_entries kept w) = slice_get-map (put_entries kept) (arguments way) i ∙ ap (option_map (put_entries kept)) a in
       let m : Some (put_entries kept w) ≡ Some t = sym there ∙ ap (λ us. slice_get us i) (arguments_built way tree f v e) ∙ b in cc
@@ -190,7 +217,9 @@ module _ (kept : List Tree) where
       λ i. app (m i) ((sym (trees-list_of (put_all kept ws)) ∙ ap trees (put_all-list_of kept ws ∙ e) ∙ trees-list_of ts) i)
 
 -- one more argument
-pub alike_further : (F : Tree → Tree) (xs ys : List Tree) (i : ℕ) (x y : Tree) → map F (take i xs) ≡ take i ys → slice_get xs i ≡ Some x → slice_get ys i ≡ Some y → F x ≡ y → map F (take (i + 1) xs) ≡ take (i + 1) ys
+pub alike_further :
+    (F : Tree → Tree) (xs ys : List Tree) (i : ℕ) (x y : Tree) → map F (take i xs) ≡ take i ys → slice_get xs i ≡ Some x → slice_get ys i ≡ Some y → F x ≡ y
+    → map F (take (i + 1) xs) ≡ take (i + 1) ys
 alike_further F xs ys i x y e a b m =
     let h = slice_get_within xs i x a in
     let k = slice_get_within ys i y b in
@@ -204,21 +233,6 @@ alike_further F xs ys i x y e a b m =
 pub all_alike_taken : (F : Tree → Tree) (xs ys : List Tree) (i : ℕ) → map F (take i xs) ≡ take i ys → length xs ≤ i → length ys ≤ i → map F xs ≡ ys
 all_alike_taken F xs ys i e h k = ap (map F) (sym (take_all i xs h)) ∙ e ∙ take_all i ys k
 
--- what a loop over the arguments of a way makes
-pub put_further : (F : Tree → Tree) (made : List Tree) (one way : Tree) (ways : List Tree) (i : ℕ) → made ≡ map F (take i ways) → slice_get ways i ≡ Some way → one ≡ F way → made ++ one ∷ [] ≡ map F (take (i + 1) ways)
-put_further F made one way ways i e there m =
-    let h = slice_get_within ways i way there in
-    let at : get_or ways i way ≡ way = get_or_from_slice_get ways i way way there in
-    (λ j. e j ++ (m ∙ ap F (sym at)) j ∷ [])
-    ∙ sym (map-append F (take i ways) (get_or ways i way ∷ []))
-    ∙ ap (map F) (sym (take_more ways i way h))
-
-pub put_whole : (kept : List Tree) (way : Tree) (f : Sym) (made : List Tree) (i : ℕ) → App f ≡ view_of way → made ≡ map (put_entries kept) (take i (arguments way)) → length (arguments way) ≤ i → app f (trees made) ≡ put_entries kept way
-put_whole kept (leaf x) f made i v e h = absurd (no_app_leaf x f v)
-put_whole kept (app g ws) f made i v e h =
-    let m : f ≡ g = cc in
-    λ j. app (m j) ((ap trees (e ∙ ap (map (put_entries kept)) (take_all i (list_of ws) h) ∙ sym (put_all-list_of kept ws)) ∙ trees-list_of (put_all kept ws)) j)
-
 -- the entry of a kept tree builds it
 pub entry_builds : (kept : List Tree) (tree way : Tree) (i : ℕ) → IsFirst kept tree i → way ≡ leaf (entry (suc i)) → Builds kept tree way
 entry_builds kept tree way i first e =
@@ -228,12 +242,24 @@ entry_builds kept tree way i first e =
       gives = numbered-there kept i tree (leaf (entry (suc i))) first.here;
     })
 
+pub entry_put : (kept : List Tree) (tree : Tree) (i : ℕ) (old new : List Tree) → IsFirst kept tree i → new ≡ leaf (entry (suc i)) ∷ old → PutsWay kept tree old new
+entry_put kept tree i old new first e = record { way = leaf (entry (suc i)); builds = entry_builds kept tree (leaf (entry (suc i))) i first refl; put = e }
+
 -- what is not kept is built where it is composed
-pub built_composed : (kept : List Tree) (tree : Tree) (o : Option Tree) → IsNotKept kept tree → MatchOption o (IsNotComposed kept tree) (Composes kept tree) → MatchOption o (IsNotBuilt kept tree) (Builds kept tree)
-built_composed kept tree (Some way) never c = c.builds
-built_composed kept tree None never c =
+pub built_composed :
+    (kept : List Tree) (tree : Tree) (found : Bool) (old new : List Tree) → IsNotKept kept tree
+    → MatchBool found (PutsComposed kept tree old new) (IsNotComposed kept tree) → MatchBool found (PutsWay kept tree old new) (IsNotBuilt kept tree)
+built_composed kept tree true old new never c = record { way = c.way; builds = c.composes.builds; put = c.put }
+built_composed kept tree false old new never c =
     λ way b.
     elim (entry_or_composed kept tree way b) [
       | inl e ↦ never e.place e.there
       | inr d ↦ c way d
     ]
+
+-- the one way that is there
+pub the_way : (kept : List Tree) (tree way : Tree) (stack : List Tree) → PutsWay kept tree [] stack → stack ≡ way ∷ [] → Builds kept tree way
+the_way kept tree way stack p e = let m : p.way ∷ [] ≡ way ∷ [] = sym p.put ∙ e in let same : p.way ≡ way = cc in subst (Builds kept tree) same p.builds
+
+pub the_composed : (kept : List Tree) (tree way : Tree) (stack : List Tree) → PutsComposed kept tree [] stack → stack ≡ way ∷ [] → Composes kept tree way
+the_composed kept tree way stack p e = let m : p.way ∷ [] ≡ way ∷ [] = sym p.put ∙ e in let same : p.way ≡ way = cc in subst (Composes kept tree) same p.composes

@@ -1,4 +1,3 @@
-pub mod Digest
 pub mod Ways
 pub mod Places
 pub mod Follows

@@ -2,7 +2,7 @@
 use Rattle.std.specs.Prelude.{◌≡◌, ◌⊎◌, ◌≤◌, ℕ, nat_eq, List, length, Some, slice_get}
 use Rattle.std.specs.Map.{lookup}
 use Rattle.dps_terms.specs.Tree.{Tree}
-use Rattle.dps_static.specs.Digest.{digest}
+use Rattle.dps_terms.specs.Digest.{digest}
 
 -- a place stands for the digest, and it is not behind k
 pub record HasPlaceUpTo (places : List (ℕ × ℕ)) (digest k : ℕ) : Type 0 where

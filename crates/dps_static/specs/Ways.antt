@@ -1,6 +1,6 @@
 -- Ways to build a tree from a list of kept ones: with symbols, public names, and the kept trees by their entries. An open
 -- way may hold rigid names besides, which stand for themselves.
-use Rattle.std.specs.Prelude.{◌≡◌, ℕ, ◌<◌, List, length, slice_get, Some, ⊤}
+use Rattle.std.specs.Prelude.{◌≡◌, ℕ, ◌<◌, List, ◌∷◌, length, slice_get, Some, ⊤}
 use Rattle.dps_terms.specs.declared.PublicName.{PublicName}
 use Rattle.dps_terms.specs.Tree.{Leaf, public, private, var, ax, entry, rigid, Tree, leaf, app}
 use Rattle.dps_terms.specs.Replace.{put_entries}
@@ -59,3 +59,15 @@ pub record IsFirst (kept : List Tree) (tree : Tree) (place : ℕ) : Type 0 where
 -- the tree is not kept
 abbrev pub IsNotKept : List Tree → Tree → Type 0
 IsNotKept kept tree = (j : ℕ) → ¬ (slice_get kept j ≡ Some tree)
+
+-- a way that builds the tree was put in front
+pub record PutsWay (kept : List Tree) (tree : Tree) (old new : List Tree) : Type 0 where
+  pub way : Tree
+  pub builds : Builds kept tree way
+  pub put : new ≡ way ∷ old
+
+-- a way that builds the tree from more than one entry alone was put in front
+pub record PutsComposed (kept : List Tree) (tree : Tree) (old new : List Tree) : Type 0 where
+  pub way : Tree
+  pub composes : Composes kept tree way
+  pub put : new ≡ way ∷ old

@@ -1,13 +1,13 @@
 //! Ways to build a tree from kept ones. A rigid name stands for itself.
-ghost use Rattle.std.specs.Prelude.{◌≡◌, ◌+◌, ◌<◌, ◌^◌, ◌↔◌, suc, IfOk, IsTrue, MatchOption, unwrap_or};
+ghost use Rattle.std.specs.Prelude.{◌≡◌, ◌+◌, ◌<◌, ◌^◌, ◌↔◌, suc, IfOk, IsTrue, MatchBool, MatchOption, unwrap_or};
 ghost use Rattle.std.specs.Option.{option_copied};
 ghost use Rattle.dps_terms.specs.Tree.{Tree, leaf, entry};
 ghost use Rattle.dps_terms.specs.Replace.{numbered, put_entries};
 ghost use Rattle.dps_terms.specs.Seen.{seen};
-ghost use Rattle.dps_static.specs.Ways.{Builds, Composes, IsNotBuilt, IsNotComposed};
+ghost use Rattle.dps_static.specs.Ways.{Builds, Composes, IsNotBuilt, IsNotComposed, PutsWay, PutsComposed};
 
 use crate::kept::Kept;
-use dps_terms::{NoMemory, Term, TermRef, TermView};
+use dps_terms::{NoMemory, Term, TermLeaf, TermRef, TermStack, TermView};
 use std::alloc::{AllocError, Global};
 
 /// The entry of a place that is counted from 0.
@@ -20,29 +20,18 @@ pub(crate) fn entry_at(alloc: Global, place: usize) -> Result<Term, NoMemory>
 }
 
 /// A way to build the tree, and `None` exactly where there is none.
-#[cycle(build)]
 pub(crate) fn way(alloc: Global, kept: &Kept, tree: TermRef<'_>) -> Result<Option<Term>, NoMemory>
     ensures { IfOk result (λ o. MatchOption o (IsNotBuilt kept.now (seen tree.entry)) (Builds kept.now (seen tree.entry))) }
 {
-    // A public name needs no look-up.
-    if let TermView::Public(name) = tree.view() {
-        let term = Term::public(alloc, name)?;
-        return Ok(Some(term));
-    }
-    match kept.place(tree) {
-        Some(i) => {
-            let entry = entry_at(alloc, i)?;
-            Ok(Some(entry))
-        }
-        None => {
-            let found = composed(alloc, kept, tree)?;
-            Ok(found)
-        }
+    let mut stack = TermStack::empty(alloc);
+    if put_way(kept, tree, &mut stack)? {
+        Ok(Some(stack.into_term()))
+    } else {
+        Ok(None)
     }
 }
 
 /// A way to build the tree that is more than an entry alone, and `None` exactly where there is none.
-#[cycle(build)]
 pub(crate) fn composed(
     alloc: Global,
     kept: &Kept,
@@ -50,27 +39,55 @@ pub(crate) fn composed(
 ) -> Result<Option<Term>, NoMemory>
     ensures { IfOk result (λ o. MatchOption o (IsNotComposed kept.now (seen tree.entry)) (Composes kept.now (seen tree.entry))) }
 {
+    let mut stack = TermStack::empty(alloc);
+    if put_composed(kept, tree, &mut stack)? {
+        Ok(Some(stack.into_term()))
+    } else {
+        Ok(None)
+    }
+}
+
+/// Puts a way to build the tree in front, and says whether there is one.
+#[cycle(build)]
+fn put_way(kept: &Kept, tree: TermRef<'_>, stack: &mut TermStack) -> Result<bool, NoMemory>
+    ensures { IfOk result (λ found. MatchBool found (PutsWay kept.now (seen tree.entry) stack.old stack.new) (IsNotBuilt kept.now (seen tree.entry))) }
+{
+    // A public name needs no look-up.
+    if let TermView::Public(_) = tree.view() {
+        stack.push(tree)?;
+        return Ok(true);
+    }
+    match kept.place(tree) {
+        Some(place) => {
+            stack.push_leaf(TermLeaf::Entry(place as u64 + 1))?;
+            Ok(true)
+        }
+        None => put_composed(kept, tree, stack),
+    }
+}
+
+/// Puts a way to build the tree that is more than an entry alone in front, and says whether there is one.
+#[cycle(build)]
+fn put_composed(kept: &Kept, tree: TermRef<'_>, stack: &mut TermStack) -> Result<bool, NoMemory>
+    ensures { IfOk result (λ found. MatchBool found (PutsComposed kept.now (seen tree.entry) stack.old stack.new) (IsNotComposed kept.now (seen tree.entry))) }
+{
     match tree.view() {
         TermView::App(sym) => {
-            let mut arguments = Vec::with_capacity(alloc, tree.arity() as usize)?;
-            for i in 0..tree.arity() {
-                match way(alloc, kept, tree.argument(i))? {
-                    Some(argument) => arguments.push(argument)?,
-                    None => return Ok(None),
+            let mut left = tree.arity();
+            while left > 0 {
+                left -= 1;
+                if !put_way(kept, tree.argument(left), stack)? {
+                    return Ok(false);
                 }
             }
-            let term = Term::app(alloc, sym, arguments)?;
-            Ok(Some(term))
+            stack.apply(sym, tree.arity())?;
+            Ok(true)
         }
-        TermView::Public(name) => {
-            let term = Term::public(alloc, name)?;
-            Ok(Some(term))
+        TermView::Public(_) | TermView::Rigid(_) => {
+            stack.push(tree)?;
+            Ok(true)
         }
-        TermView::Rigid(number) => {
-            let term = Term::rigid(alloc, number)?;
-            Ok(Some(term))
-        }
-        _ => Ok(None),
+        _ => Ok(false),
     }
 }
 

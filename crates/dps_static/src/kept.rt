@@ -4,7 +4,6 @@ ghost use Rattle.dps_terms.specs.Seen.{seen};
 ghost use Rattle.dps_static.specs.Ways.{IsFirst, IsNotKept};
 ghost use Rattle.dps_static.specs.Places.{IsPlaced};
 
-use crate::digest::digest;
 use dps_terms::{NoMemory, Term, TermRef};
 use indexmap::IndexMap;
 use std::alloc::{AllocError, Global};
@@ -48,7 +47,7 @@ impl Kept {
     pub(crate) fn push(&mut self, tree: Term) -> Result<(), NoMemory>
         ensures { OnOk result (self.new ≡ self.old ++ tree ∷ []) }
     {
-        put_place(&mut self.places, digest(tree.whole()), self.trees.len())?;
+        put_place(&mut self.places, tree.whole().digest(), self.trees.len())?;
         self.trees.push(tree)?;
         Ok(())
     }
@@ -65,7 +64,7 @@ impl Kept {
         ensures first { MatchOption result (IsNotKept self.now (seen tree.entry)) (IsFirst self.now (seen tree.entry)) }
         ensures small { IfSome result (λ place. place + 1 < 2 ^ 64) }
     {
-        match self.places.get(&digest(tree)) {
+        match self.places.get(&tree.digest()) {
             Some(start) => place_from(&self.trees, *start, tree),
             None => None,
         }

@@ -14,7 +14,6 @@ ghost use Rattle.dps_static.specs.Answer.{IsAnswerUnder, IsDeduction, IsSaturate
 mod build;
 mod carry;
 mod cover;
-mod digest;
 mod expand;
 mod follow;
 mod instance;

@@ -1,11 +1,11 @@
 //! New names of the attacker in the place of rigid names.
 ghost use Rattle.std.specs.Prelude.{◌≡◌, ◌≤◌, ◌<◌, ◌↔◌, IfOk, OnOk, IsTrue, Contains};
-ghost use Rattle.dps_terms.specs.Replace.{put_entries};
+ghost use Rattle.dps_terms.specs.Replace.{put_entries, rigid_names_to};
 ghost use Rattle.dps_terms.specs.Seen.{seen};
-ghost use Rattle.dps_static.specs.Naming.{Adds, AreNamed, number_of, renamed, AreNew};
+ghost use Rattle.dps_static.specs.Naming.{Adds, AreNamed, number_of, newly, renamed, AreNew};
 
 use crate::expand::expanded;
-use dps_terms::{NoMemory, PublicName, Term, TermRef, TermView};
+use dps_terms::{NoMemory, PublicName, Replacement, Term, TermLeaf, TermRef, TermStack, TermView};
 use std::alloc::{AllocError, Global};
 
 /// The attacker's name with this number stands for the rigid name.
@@ -117,25 +117,23 @@ fn number_of(names: &[NewName], rigid: u64) -> u64
     0
 }
 
-/// The tree with the new names for the rigid ones.
-fn with_names(alloc: Global, names: &[NewName], tree: TermRef<'_>) -> Result<Term, NoMemory>
-    ensures { IfOk result (λ t. t ≡ renamed (number_of names.now) (seen tree.entry)) }
-{
-    match tree.view() {
-        TermView::App(sym) => {
-            let mut arguments = Vec::with_capacity(alloc, tree.arity() as usize)?;
-            for i in 0..tree.arity() {
-                let argument = with_names(alloc, names, tree.argument(i))?;
-                arguments.push(argument)?;
+/// The new names stand for the rigid ones.
+#[derive(Clone, Copy)]
+struct NewNames<'a> {
+    names: &'a [NewName],
+}
+
+impl<'a> Replacement for NewNames<'a> {
+    ghost becomes = { λ a. rigid_names_to (newly (number_of a.names.now)) };
+
+    fn put(&self, leaf: TermLeaf, stack: &mut TermStack) -> Result<(), NoMemory> {
+        match leaf {
+            TermLeaf::Rigid(rigid) => {
+                let number = number_of(self.names, rigid);
+                stack.push_leaf(TermLeaf::Public(PublicName::At(number)))
             }
-            let term = Term::app(alloc, sym, arguments)?;
-            Ok(term)
+            other => stack.push_leaf(other),
         }
-        TermView::Rigid(rigid) => {
-            let name = Term::public(alloc, PublicName::At(number_of(names, rigid)))?;
-            Ok(name)
-        }
-        _ => tree.copy(alloc),
     }
 }
 
@@ -148,7 +146,7 @@ pub(crate) fn named_recipe(
 ) -> Result<Term, NoMemory>
     ensures { IfOk result (λ t. t ≡ put_entries recipes.now (renamed (number_of names.now) (seen way.entry))) }
 {
-    let named = with_names(alloc, names, way)?;
+    let named = way.replaced(alloc, &NewNames { names })?;
     let recipe = expanded(alloc, recipes, named.whole())?;
     Ok(recipe)
 }

@@ -17,27 +17,42 @@ fn over(alloc: Global, stack: &mut Vec<Term>, number: u32, arity: usize) -> Resu
     Term::app(alloc, Sym { number }, arguments)
 }
 
-/// The terms that the letters leave on a stack: `a` and `b` are declared names, `0` and `@` are the attacker's first and last
-/// own names, `h` is a symbol over one term and `e` one over two, `S`, `D`, `U` and `Q` are destructors over none, two, one and
-/// one, `X` and `Y` are variables, other digits are handles, and other letters are private names.
+/// The symbol of the letter, by its number, with its arity: `h` is a constructor over one term and `e` one over two, and
+/// `S`, `D`, `U` and `Q` are destructors over none, two, one and one.
+fn symbol(letter: u8) -> Option<(u32, usize)> {
+    match letter {
+        b'S' => Some((0, 0)),
+        b'h' => Some((1, 1)),
+        b'e' => Some((2, 2)),
+        b'D' => Some((3, 2)),
+        b'U' => Some((4, 1)),
+        b'Q' => Some((5, 1)),
+        _ => None,
+    }
+}
+
+/// The leaf of the letter: `a` and `b` are declared names, `0` and `@` are the attacker's first and last own names, `X` and
+/// `Y` are variables, other digits are handles, and other letters are private names.
+fn leaf(alloc: Global, letter: u8) -> Result<Term, NoMemory> {
+    match letter {
+        b'a' => Term::public(alloc, PublicName::Declared(0)),
+        b'b' => Term::public(alloc, PublicName::Declared(1)),
+        b'0' => Term::public(alloc, PublicName::At(0)),
+        b'@' => Term::public(alloc, PublicName::At(u64::MAX)),
+        b'X' => Term::var(alloc, 0),
+        b'Y' => Term::var(alloc, 1),
+        b'1'..=b'9' => Term::ax(alloc, u32::from(letter - b'0')),
+        _ => Term::private(alloc, u64::from(letter)),
+    }
+}
+
+/// The terms that the letters leave on a stack: a leaf is put there, and a symbol takes its arguments.
 fn terms(alloc: Global, letters: &[u8]) -> Result<Vec<Term>, NoMemory> {
     let mut stack = Vec::new(alloc);
     for letter in letters {
-        let term = match *letter {
-            b'S' => over(alloc, &mut stack, 0, 0)?,
-            b'h' => over(alloc, &mut stack, 1, 1)?,
-            b'e' => over(alloc, &mut stack, 2, 2)?,
-            b'D' => over(alloc, &mut stack, 3, 2)?,
-            b'U' => over(alloc, &mut stack, 4, 1)?,
-            b'Q' => over(alloc, &mut stack, 5, 1)?,
-            b'a' => Term::public(alloc, PublicName::Declared(0))?,
-            b'b' => Term::public(alloc, PublicName::Declared(1))?,
-            b'0' => Term::public(alloc, PublicName::At(0))?,
-            b'@' => Term::public(alloc, PublicName::At(u64::MAX))?,
-            b'1'..=b'9' => Term::ax(alloc, u32::from(*letter - b'0'))?,
-            b'X' => Term::var(alloc, 0)?,
-            b'Y' => Term::var(alloc, 1)?,
-            other => Term::private(alloc, u64::from(other))?,
+        let term = match symbol(*letter) {
+            Some((number, arity)) => over(alloc, &mut stack, number, arity)?,
+            None => leaf(alloc, *letter)?,
         };
         stack.push(term)?;
     }

@@ -15,9 +15,15 @@ use Rattle.dps_tree.proofs.Holding.{contains_none, contains_one, contains_pushed
 use Rattle.dps_tree.proofs.Offering.{groups_offered, offered_groups}
 use Rattle.dps_tree.proofs.Orders.{ahead_by}
 
-pub offers_of_both : (table : Table) (node : Node) (mid new : List ℕ) → IsNamedNode table node → AddsOffers (GroupsOffer table node.left.items) [] mid → AddsOffers (GroupsOffer table node.right.items) mid new → HoldsOffers table node new
+pub offers_of_both :
+    (table : Table) (node : Node) (mid new : List ℕ) → IsNamedNode table node → AddsOffers (GroupsOffer table node.left.items) [] mid
+    → AddsOffers (GroupsOffer table node.right.items) mid new → HoldsOffers table node new
 offers_of_both table node mid new n h g c = (
-  λ a. elim ((g c).0 a) [ inl b ↦ elim ((h c).0 b) [ inl d ↦ absurd (contains_none c d) | inr f ↦ inl (groups_offered table node.left.items c n.left f) ] | inr f ↦ inr (groups_offered table node.right.items c n.right f) ],
+  λ a. elim ((g c).0 a) [
+    | inl b ↦ elim ((h c).0 b) [ inl d ↦ absurd (contains_none c d) | inr f ↦ inl (groups_offered table node.left.items c n.left f) ]
+    | inr f ↦ inr
+        (groups_offered table node.right.items c n.right f)
+  ],
   elim [ inl f ↦ (g c).1 (inl ((h c).1 (inr (offered_groups table node.left.items c f)))) | inr f ↦ (g c).1 (inr (offered_groups table node.right.items c f)) ],
 )
 
@@ -54,10 +60,14 @@ none_above table node left h = record {
   ordered = tt;
 }
 
-pub one_more_above : (table : Table) (node : Node) (old new : List ℕ) (c : ℕ) (children : List Node) (child : Node) → ChildrenAbove table node old children → old ≡ new ++ c ∷ [] → All (λ q. IsLtBy nat_cmp q c) new → IsChild table node c child → ChildrenAbove table node new (children ++ child ∷ [])
+pub one_more_above :
+    (table : Table) (node : Node) (old new : List ℕ) (c : ℕ) (children : List Node) (child : Node) → ChildrenAbove table node old children → old ≡ new ++ c ∷ []
+    → All (λ q. IsLtBy nat_cmp q c) new → IsChild table node c child → ChildrenAbove table node new (children ++ child ∷ [])
 one_more_above table node old new c children child h e below made = record {
   known = λ k m. h.known k (kept k m);
-  offered = λ n m. elim ((contains_pushed children child n).0 m) [ inl a ↦ (let f = h.offered n a in (f.0, f.1, f.2, λ k q. f.3 k (kept k q))) | inr s ↦ (c, h.known c here, subst (IsChild table node c) (sym s) made, lower) ];
+  offered =
+      λ n m. elim ((contains_pushed children child n).0 m)
+      [ inl a ↦ (let f = h.offered n a in (f.0, f.1, f.2, λ k q. f.3 k (kept k q))) | inr s ↦ (c, h.known c here, subst (IsChild table node c) (sym s) made, lower) ];
   complete = λ k o. elim (h.complete k o) [
     | inl m ↦ elim ((contains_pushed new c k).0 (subst (λ (ks : List ℕ). Contains ks k) e m)) [
       | inl a ↦ inl a
@@ -80,7 +90,8 @@ one_more_above table node old new c children child h e below made = record {
     ahead : (n m : Node) → Contains children n → Contains (child ∷ []) m → IsAhead m.channels.items n.channels.items
     ahead n m a b =
         let f = h.offered n a in
-        let first = subst (λ (w : List ℕ). IsAhead child.channels.items w) (sym f.2.channels) (subst (λ (w : List ℕ). IsAhead w (node.channels.items ++ f.0 ∷ [])) (sym made.channels) (ahead_by node.channels.items c f.0 (f.3 c here))) in
+        let first = subst (λ (w : List ℕ). IsAhead child.channels.items w) (sym f.2.channels)
+        (subst (λ (w : List ℕ). IsAhead w (node.channels.items ++ f.0 ∷ [])) (sym made.channels) (ahead_by node.channels.items c f.0 (f.3 c here))) in
         subst (λ (p : Node). IsAhead p.channels.items n.channels.items) (sym (contains_one child m b)) first
 
 pub all_above : (table : Table) (node : Node) (left : List ℕ) (children : List Node) → left ≡ [] → ChildrenAbove table node left children → AreChildren table node children

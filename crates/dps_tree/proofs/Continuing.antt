@@ -2,7 +2,7 @@
 use Rattle.std.proofs.Common.{◌≡◌, ℕ, suc, ◌+◌, ◌≤◌, List, [], ◌∷◌, ◌++◌, length, refl, sym, ◌∙◌, ap, subst, arith, append_assoc}
 use Rattle.dps_terms.specs.Tree.{Tree}
 use Rattle.dps_process.specs.Process.{Process, nil, parallel, choice, conditional, bind, input, output, process_nodes, part_nodes}
-use Rattle.dps_process.specs.Steps.{Config, Takes, here, there}
+use Rattle.dps_process.specs.Steps.{Config, Removes, here, there}
 use Rattle.dps_process.proofs.Bags.{reordered_sym, bags_refl}
 use Rattle.dps_tree.specs.Playing.{settled, Offers}
 use Rattle.dps_tree.specs.Following.{AreFollowing, FollowsOne}
@@ -13,7 +13,9 @@ pub record Continues (ps : List Process) (cs : List ℕ) (configs : Config → T
   pub sound : (k : Config) → configs k → (ds : List ℕ) (ms : List Tree) → Plays k.parts ds ms → Plays ps (cs ++ ds) (k.frame ++ ms)
   pub complete : (ds : List ℕ) (frame : List Tree) → Plays ps (cs ++ ds) frame → (k : Config) × configs k × ((ms : List Tree) × Plays k.parts ds ms × (frame ≡ k.frame ++ ms))
 
-first_played : {ps : List Process} {c : ℕ} {ds : List ℕ} {ms : List Tree} → Plays ps (c ∷ ds) ms → (u : Tree) × (q : Process) × (rest : List Process) × Takes (output c u q) ps rest × ((later : List Tree) × Plays (settled q ++ rest) ds later × (ms ≡ u ∷ later))
+first_played :
+    {ps : List Process} {c : ℕ} {ds : List ℕ} {ms : List Tree} → Plays ps (c ∷ ds) ms
+    → (u : Tree) × (q : Process) × (rest : List Process) × Removes (output c u q) ps rest × ((later : List Tree) × Plays (settled q ++ rest) ds later × (ms ≡ u ∷ later))
 first_played (plays {u = u} {q} {rest = rest} {ms = later} t r) = (u, q, rest, t, (later, r, refl))
 
 -- an output is offered where the parts can put it out
@@ -68,7 +70,7 @@ settled_le (bind x u p q) = omega arith
 settled_le (input c x p) = omega arith
 settled_le (output c u p) = omega arith
 
-taken_nodes : {p : Process} {ps rest : List Process} → Takes p ps rest → part_nodes ps ≡ process_nodes p + part_nodes rest
+taken_nodes : {p : Process} {ps rest : List Process} → Removes p ps rest → part_nodes ps ≡ process_nodes p + part_nodes rest
 taken_nodes here = refl
 taken_nodes (there t) = let h = taken_nodes t in omega arith
 

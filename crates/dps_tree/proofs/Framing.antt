@@ -57,7 +57,10 @@ module _ (table : Table) (bag : List ℕ) (g : Group) (start : IsStartGroup bag 
       let here : Contains g.bags b = subst (λ (y : Group). Contains y.bags b) e d in
       subst (StandForSome table) (sym ((start.bags b).0 here)) some
 
-pub root_node : (table : Table) (left right : List ℕ) (first second : Group) (node : Node) → node.channels.items ≡ [] → node.left.items ≡ first ∷ [] → node.right.items ≡ second ∷ [] → IsStartGroup left first → IsStartGroup right second → StandForSome table left → StandForSome table right → IsRoot table left right node
+pub root_node :
+    (table : Table) (left right : List ℕ) (first second : Group) (node : Node) → node.channels.items ≡ [] → node.left.items ≡ first ∷ []
+    → node.right.items ≡ second ∷ [] → IsStartGroup left first → IsStartGroup right second → StandForSome table left → StandForSome table right
+    → IsRoot table left right node
 root_node table left right first second node c l r s t a b = record {
   channels = c;
   on_left = subst (λ (gs : List Group). AreStarts table left (Holds table gs)) (sym l) (start_holds table left first s);

@@ -3,7 +3,7 @@ pub mod Plays
 pub mod PlainRuns
 pub mod Holding
 pub mod Shuffling
-pub mod Standing
+pub mod OutputNumbers
 pub mod Orders
 pub mod PlainSides
 pub mod Constructors
@@ -17,4 +17,4 @@ pub mod Branching
 pub mod Pending
 pub mod Weighing
 pub mod Matchings
-pub mod Growing
+pub mod TableGrowth

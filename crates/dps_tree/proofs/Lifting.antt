@@ -5,7 +5,7 @@ use Rattle.std.proofs.lemmas.List.{append-nil}
 use Rattle.std.proofs.lemmas.List.Sorted.{IsPermutation-refl, IsPermutation-sym}
 use Rattle.dps_terms.specs.Tree.{Tree}
 use Rattle.dps_process.specs.Process.{Process, output}
-use Rattle.dps_process.specs.Steps.{Config, Takes, IsReordered}
+use Rattle.dps_process.specs.Steps.{Config, Removes, IsReordered}
 use Rattle.dps_process.proofs.Bags.{reordered_refl, reordered_trans, reordered_sym, taken_reordered}
 use Rattle.dps_tree.specs.Playing.{settled}
 use Rattle.dps_tree.specs.Table.{StandFor, a_part, no_parts, StandForBag, messages_of, listed, frame_of}
@@ -16,12 +16,14 @@ use Rattle.dps_tree.specs.declared.table.Table.{Table}
 use Rattle.dps_tree.specs.declared.group.Group.{Group}
 use Rattle.dps_tree.proofs.Holding.{contains_none}
 use Rattle.dps_tree.proofs.Plays.{exchanged_lists}
-use Rattle.dps_tree.proofs.Standing.{StandsForOne, stand_append, stand_apart, stand_permuted, bag_permuted, bag_reordered, bag_append, StandsForOutput, stands_for, stand_around, StandAt, stand_at, stand_put, side_by_side, settled_beside}
+use Rattle.dps_tree.proofs.OutputNumbers.{StandsForOne, stand_append, stand_apart, stand_permuted, bag_permuted, bag_reordered, bag_append}
+use Rattle.dps_tree.proofs.OutputNumbers.{StandsForOutput, stands_for, stand_around, StandAt, stand_at, stand_put, side_by_side, settled_beside}
 
 module _ (table : Table) where
   pub frame_append : (ns ms : List ℕ) → frame_of table (ns ++ ms) ≡ frame_of table ns ++ frame_of table ms
   frame_append [] ms = refl
-  frame_append (n ∷ ns) ms = ap (λ fs. listed (slice_get (messages_of table) n) ++ fs) (frame_append ns ms) ∙ sym (append_assoc (listed (slice_get (messages_of table) n)) (frame_of table ns) (frame_of table ms))
+  frame_append (n ∷ ns) ms =
+      ap (λ fs. listed (slice_get (messages_of table) n) ++ fs) (frame_append ns ms) ∙ sym (append_assoc (listed (slice_get (messages_of table) n)) (frame_of table ns) (frame_of table ms))
 
   pub frame_more : (ns : List ℕ) (m : ℕ) (u : Tree) → slice_get (messages_of table) m ≡ Some u → frame_of table (ns ++ m ∷ []) ≡ frame_of table ns ++ u ∷ []
   frame_more ns m u e = frame_append ns (m ∷ []) ∙ ap (λ (o : Option Tree). frame_of table ns ++ (listed o ++ [])) e
@@ -32,7 +34,9 @@ module _ (table : Table) where
       (subst (λ (zs : List Process). IsReordered (xs ++ (ys ++ [])) (ys ++ zs)) (append-nil xs) (exchanged_lists xs ys []))
 
   -- what the output of a bag is, where the bag stands for parts
-  pub output_of : (bag : List ℕ) (c i m : ℕ) (next : List ℕ) (ps : List Process) → StandFor table bag ps → (g : GoesOnAt table bag c i m next) → (a : StandAt table i g.there.0 bag ps) × ((s : StandsForOutput table g.there.0 a.part) × (s.output_of ≡ g.output))
+  pub output_of :
+      (bag : List ℕ) (c i m : ℕ) (next : List ℕ) (ps : List Process) → StandFor table bag ps → (g : GoesOnAt table bag c i m next)
+      → (a : StandAt table i g.there.0 bag ps) × ((s : StandsForOutput table g.there.0 a.part) × (s.output_of ≡ g.output))
   output_of bag c i m next ps h g =
       let a = stand_at bag i g.there.0 ps g.there.1 h in
       let s = stands_for a.one in
@@ -47,7 +51,10 @@ module _ (table : Table) where
       (k.0, k.1)
 
   -- what stands for the parts of a bag that went on follows
-  next_follows : (group : Group) (bag : List ℕ) (c i m : ℕ) (next : List ℕ) (ps : List Process) (k : Config) → Contains group.bags bag → StandFor table bag ps → GoesOnAt table bag c i m next → StandForBag table next k.parts → k.frame ≡ frame_of table (group.frame.items ++ m ∷ []) → FollowsOne (IsIn table group) c k
+  next_follows :
+      (group : Group) (bag : List ℕ) (c i m : ℕ) (next : List ℕ) (ps : List Process) (k : Config) → Contains group.bags bag → StandFor table bag ps
+      → GoesOnAt table bag c i m next → StandForBag table next k.parts → k.frame ≡ frame_of table (group.frame.items ++ m ∷ [])
+      → FollowsOne (IsIn table group) c k
   next_follows group bag c i m next ps k there h g b f =
       let o = output_of bag c i m next ps h g in
       let rest = take i bag ++ drop (i + 1) bag in
@@ -57,15 +64,17 @@ module _ (table : Table) where
       let settles : settled q ≡ apart.back = settled_beside apart.second in
       let u = o.1.0.message in
       let named : slice_get (messages_of table) g.output.message ≡ Some u = subst (λ (x : Output). slice_get (messages_of table) x.message ≡ Some u) o.1.1 o.1.0.named in
-      let one : StandsForOne table g.there.0 (output g.output.channel u q) = a_part g.there.2 named apart.second (subst (λ (qs : List Process). IsReordered apart.back qs) (sym settles) (reordered_refl apart.back)) no_parts in
+      let one : StandsForOne table g.there.0 (output g.output.channel u q) = a_part g.there.2 named apart.second
+      (subst (λ (qs : List Process). IsReordered apart.back qs) (sym settles) (reordered_refl apart.back)) no_parts in
       let put = stand_put bag i g.there.0 (output g.output.channel u q) apart.front g.there.1 one apart.first in
       let j : Config = record { parts = put.0; frame = frame_of table group.frame.items } in
       let after : Config = record { parts = settled q ++ apart.front; frame = j.frame ++ u ∷ [] } in
-      let order : IsReordered (settled q ++ apart.front) k.parts = subst (λ (qs : List Process). IsReordered (qs ++ apart.front) k.parts) (sym settles) (reordered_trans (behind apart.back apart.front) (subst (λ (qs : List Process). IsReordered qs k.parts) apart.same z.2)) in
+      let order : IsReordered (settled q ++ apart.front) k.parts = subst (λ (qs : List Process). IsReordered (qs ++ apart.front) k.parts) (sym settles)
+      (reordered_trans (behind apart.back apart.front) (subst (λ (qs : List Process). IsReordered qs k.parts) apart.same z.2)) in
       let frames : after.frame ≡ k.frame = sym (f ∙ frame_more group.frame.items m u (subst (λ (n : ℕ). slice_get (messages_of table) n ≡ Some u) g.message named)) in (
         j,
         record { bag = bag; there = there; parts = (put.0, put.1, reordered_refl put.0); frame = refl },
-        (after, (u, q, apart.front, subst (λ (d : ℕ). Takes (output d u q) put.0 apart.front) g.channel put.2, refl), record { parts = order; frame = frames }),
+        (after, (u, q, apart.front, subst (λ (d : ℕ). Removes (output d u q) put.0 apart.front) g.channel put.2, refl), record { parts = order; frame = frames }),
       )
 
   -- and what follows is what the bag goes on in stands for
@@ -101,7 +110,8 @@ module _ (table : Table) where
       record {
         message = o.message;
         next = others ++ o.then.items;
-        goes = (refl, (bag, inside.there, (a.place, record { output = o; there = (a.number, a.there, s.there); channel = channel; message = refl; after = IsPermutation-refl (others ++ o.then.items) })));
+        goes =
+            (refl, (bag, inside.there, (a.place, record { output = o; there = (a.number, a.there, s.there); channel = channel; message = refl; after = IsPermutation-refl (others ++ o.then.items) })));
         parts = bag_reordered (others ++ o.then.items) (settled q ++ rest) k.parts ordered parts;
         frame = sym f.2.2.frame ∙ (ap (λ (x : Config). x.frame) f.2.1.4 ∙ (ap (λ fs. fs ++ u ∷ []) inside.frame ∙ sym (frame_more group.frame.items o.message u named)));
       }

@@ -29,7 +29,9 @@ module _ (theory : Theory) where
   pub unmatched_by_none : (frame : List Tree) → IsMatchAnswer theory frame (Contains []) false
   unmatched_by_none frame signature f g m = contains_none m.0 m.1
 
-  pub unmatched_by_more : (frame : List Tree) (fs : List (List Tree)) (x : List Tree) → IsMatchAnswer theory frame (Contains fs) false → AreAlikeAnswer theory frame x false → IsMatchAnswer theory frame (Contains (fs ++ x ∷ [])) false
+  pub unmatched_by_more :
+      (frame : List Tree) (fs : List (List Tree)) (x : List Tree) → IsMatchAnswer theory frame (Contains fs) false → AreAlikeAnswer theory frame x false
+      → IsMatchAnswer theory frame (Contains (fs ++ x ∷ [])) false
   unmatched_by_more frame fs x h a signature f g m =
       elim ((contains_pushed fs x m.0).0 m.1) [
         | inl b ↦ h signature f (λ j d. g j ((contains_pushed fs x j).1 (inl d))) (m.0, b, m.2)
@@ -43,7 +45,9 @@ module _ (theory : Theory) where
   matched_by_same frame others c signature f g = (frame, c, reflexive signature theory frame)
 
   -- the same answer for the same frames
-  pub answer_same : (frame : List Tree) (fs : List (List Tree)) (others : List Tree → Type 0) (answer : Bool) → AreJust fs others → IsMatchAnswer theory frame (Contains fs) answer → IsMatchAnswer theory frame others answer
+  pub answer_same :
+      (frame : List Tree) (fs : List (List Tree)) (others : List Tree → Type 0) (answer : Bool) → AreJust fs others
+      → IsMatchAnswer theory frame (Contains fs) answer → IsMatchAnswer theory frame others answer
   answer_same frame fs others true j h signature f g =
       let m = h signature f (λ x c. g x ((j x).0 c)) in (m.0, (j m.0).0 m.1, m.2)
   answer_same frame fs others false j h signature f g =
@@ -54,7 +58,9 @@ module _ (theory : Theory) where
   numbers_match table groups numbers h =
       matched_by_same (frame_of table numbers) (HoldsFrame table groups) (h.0, h.1, h.2, ap (frame_of table) h.3)
 
-  pub group_answer : (count : ℕ) (frame : List Tree) (others : List Tree → Type 0) (answer : Bool) → 0 < count → IsMatchAnswer theory frame others answer → IsGroupAnswer theory count frame others answer
+  pub group_answer :
+      (count : ℕ) (frame : List Tree) (others : List Tree → Type 0) (answer : Bool) → 0 < count → IsMatchAnswer theory frame others answer
+      → IsGroupAnswer theory count frame others answer
   group_answer count frame others true some h = λ _. h
   group_answer count frame others false some h = (some, h)
 
@@ -63,7 +69,9 @@ module _ (theory : Theory) where
     pub none_to_match : AreMatchAnswer theory (HoldsFrame table []) others true
     none_to_match signature f g x c = absurd (contains_none c.0 c.1)
 
-    pub more_to_match : (gs : List Group) (x : Group) → AreMatchAnswer theory (HoldsFrame table gs) others true → IsGroupAnswer theory (length x.bags) (frame_of table x.frame.items) others true → AreMatchAnswer theory (HoldsFrame table (gs ++ x ∷ [])) others true
+    pub more_to_match :
+        (gs : List Group) (x : Group) → AreMatchAnswer theory (HoldsFrame table gs) others true
+        → IsGroupAnswer theory (length x.bags) (frame_of table x.frame.items) others true → AreMatchAnswer theory (HoldsFrame table (gs ++ x ∷ [])) others true
     more_to_match gs x h a signature f g frame c =
         elim ((contains_pushed gs x c.0).0 c.1) [
           | inl b ↦ h signature (λ i d. f i (d.0, (contains_pushed gs x d.0).1 (inl d.1), d.2, d.3)) g frame (c.0, b, c.2, c.3)
@@ -75,7 +83,9 @@ module _ (theory : Theory) where
             subst (λ (k : List Tree). IsMatchedBy signature theory others k) (sym e)
             (a some signature (f (frame_of table x.frame.items) (x, (contains_pushed gs x x).1 (inr refl), some, refl)) g)
 
-    pub one_unmatched : (gs : List Group) (x : Group) → Contains gs x → IsGroupAnswer theory (length x.bags) (frame_of table x.frame.items) others false → AreMatchAnswer theory (HoldsFrame table gs) others false
+    pub one_unmatched :
+        (gs : List Group) (x : Group) → Contains gs x → IsGroupAnswer theory (length x.bags) (frame_of table x.frame.items) others false
+        → AreMatchAnswer theory (HoldsFrame table gs) others false
     one_unmatched gs x c a signature f g =
         let held : HoldsFrame table gs (frame_of table x.frame.items) = (x, c, a.0, refl) in (frame_of table x.frame.items, held, a.1 signature (f (frame_of table x.frame.items) held) g)
 
@@ -88,13 +98,16 @@ module _ (theory : Theory) where
 pub frames_none : (table : Table) → AreJust [] (HoldsFrame table [])
 frames_none table f = (λ c. absurd (contains_none f c), λ c. absurd (contains_none c.0 c.1))
 
-pub frames_more : (table : Table) (gs : List Group) (x : Group) (fs : List (List Tree)) → 0 < length x.bags → AreJust fs (HoldsFrame table gs) → AreJust (fs ++ frame_of table x.frame.items ∷ []) (HoldsFrame table (gs ++ x ∷ []))
+pub frames_more :
+    (table : Table) (gs : List Group) (x : Group) (fs : List (List Tree)) → 0 < length x.bags → AreJust fs (HoldsFrame table gs)
+    → AreJust (fs ++ frame_of table x.frame.items ∷ []) (HoldsFrame table (gs ++ x ∷ []))
 frames_more table gs x fs some h f = (
   λ c. elim ((contains_pushed fs (frame_of table x.frame.items) f).0 c) [
     | inl d ↦ (let k = (h f).0 d in (k.0, (contains_pushed gs x k.0).1 (inl k.1), k.2, k.3))
     | inr e ↦ (x, (contains_pushed gs x x).1 (inr refl), some, e)
   ],
-  λ c. (contains_pushed fs (frame_of table x.frame.items) f).1 (elim ((contains_pushed gs x c.0).0 c.1) [ inl d ↦ inl ((h f).1 (c.0, d, c.2, c.3)) | inr e ↦ inr (c.3 ∙ ap (λ (y : Group). frame_of table y.frame.items) e) ]),
+  λ c. (contains_pushed fs (frame_of table x.frame.items) f).1
+      (elim ((contains_pushed gs x c.0).0 c.1) [ inl d ↦ inl ((h f).1 (c.0, d, c.2, c.3)) | inr e ↦ inr (c.3 ∙ ap (λ (y : Group). frame_of table y.frame.items) e) ]),
 )
 
 pub frames_left : (table : Table) (gs : List Group) (x : Group) (fs : List (List Tree)) → length x.bags ≡ 0 → AreJust fs (HoldsFrame table gs) → AreJust fs (HoldsFrame table (gs ++ x ∷ []))
@@ -114,7 +127,10 @@ pub level_swapped : (frames others : List Tree → Type 0) → AreLevel frames o
 level_swapped frames others h = record { height = h.height; few = h.few; first = h.second; second = h.first }
 
 -- where the others have one frame, it is matched in turn
-pub mutual_matched : (signature : Signature) (theory : Theory) (table : Table) (groups others : List Group) → IsMutual groups others → AreMatched signature theory (HoldsFrame table groups) (HoldsFrame table others) → AreMatched signature theory (HoldsFrame table others) (HoldsFrame table groups)
+pub mutual_matched :
+    (signature : Signature) (theory : Theory) (table : Table) (groups others : List Group) → IsMutual groups others
+    → AreMatched signature theory (HoldsFrame table groups) (HoldsFrame table others)
+    → AreMatched signature theory (HoldsFrame table others) (HoldsFrame table groups)
 mutual_matched signature theory table groups others h m frame c =
     let first = frame_of table h.0.0.frame.items in
     let held : HoldsFrame table groups first = (h.0.0, h.0.1, h.0.2, refl) in

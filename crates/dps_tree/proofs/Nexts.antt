@@ -85,7 +85,8 @@ module _ (table : Table) (bag : List ℕ) (c : ℕ) where
   -- a number that is repeated adds nothing
   at_earlier : (i m : ℕ) (next : List ℕ) (r : IsRepeated bag i) → GoesOnAt table bag c i m next → GoesOnAt table bag c r.0 m next
   at_earlier i m next r g =
-      let same : take i bag ++ drop (i + 1) bag ≡ take r.0 bag ++ drop (r.0 + 1) bag = ap (λ n. take n bag ++ drop (n + 1) bag) r.2 ∙ without_repeated bag r.0 r.1 r.3 (ap (slice_get bag) (sym r.2) ∙ r.4) in
+      let same : take i bag ++ drop (i + 1) bag ≡ take r.0 bag ++ drop (r.0 + 1) bag = ap (λ n. take n bag ++ drop (n + 1) bag) r.2
+      ∙ without_repeated bag r.0 r.1 r.3 (ap (slice_get bag) (sym r.2) ∙ r.4) in
       record {
         output = g.output;
         there = (g.there.0, r.3 ∙ (sym r.4 ∙ g.there.1), g.there.2);
@@ -112,13 +113,17 @@ module _ (table : Table) (bag : List ℕ) (c : ℕ) where
       h
 
   -- one part
-  pub part_more : (i : ℕ) (o : Output) (next : List ℕ) (old new : Next) → IsOutputAt table bag i o → o.channel ≡ c → IsAfter bag i o.then.items next → IsMore (λ m b. (m ≡ o.message) × (b ≡ next)) old new → IsMore (GoesOnAt table bag c i) old new
+  pub part_more :
+      (i : ℕ) (o : Output) (next : List ℕ) (old new : Next) → IsOutputAt table bag i o → o.channel ≡ c → IsAfter bag i o.then.items next
+      → IsMore (λ m b. (m ≡ o.message) × (b ≡ next)) old new → IsMore (GoesOnAt table bag c i) old new
   part_more i o next old new t e a h = record {
     kept = h.kept;
     added = λ m b g. (let k = h.added o.message next (refl, refl) in
         let same = one g in (
           k.0,
-          IsPermutation-trans b next k.0 (IsPermutation-trans b ((take i bag ++ drop (i + 1) bag) ++ o.then.items) next (IsPermutation-sym _ b (subst (λ (p : Output). IsPermutation ((take i bag ++ drop (i + 1) bag) ++ p.then.items) b) same g.after)) a) k.1,
+          IsPermutation-trans b next k.0
+              (IsPermutation-trans b ((take i bag ++ drop (i + 1) bag) ++ o.then.items) next
+              (IsPermutation-sym _ b (subst (λ (p : Output). IsPermutation ((take i bag ++ drop (i + 1) bag) ++ p.then.items) b) same g.after)) a) k.1,
           subst (λ (n : ℕ). StandsAt new n k.0) (ap (λ (p : Output). p.message) (sym same) ∙ g.message) k.2,
         ));
     sound = λ m b s. elim (h.sound m b s) [
@@ -157,7 +162,9 @@ module _ (table : Table) (bag : List ℕ) (c : ℕ) where
 pub one_none : (table : Table) (c : ℕ) (next : Next) → ((m : ℕ) (bag : List ℕ) → ¬ StandsAt next m bag) → IsJust (OneGoesOn table [] c) next
 one_none table c next e = just_none {P = OneGoesOn table [] c} next e (λ m b p. contains_none p.0 p.1)
 
-pub one_more : (table : Table) (c : ℕ) (bags : List (List ℕ)) (bag : List ℕ) (mid new : Next) → IsJust (OneGoesOn table bags c) mid → IsMore (GoesOn table bag c) mid new → IsJust (OneGoesOn table (bags ++ bag ∷ []) c) new
+pub one_more :
+    (table : Table) (c : ℕ) (bags : List (List ℕ)) (bag : List ℕ) (mid new : Next) → IsJust (OneGoesOn table bags c) mid → IsMore (GoesOn table bag c) mid new
+    → IsJust (OneGoesOn table (bags ++ bag ∷ []) c) new
 one_more table c bags bag mid new h g =
     just_same {P = λ m next. OneGoesOn table bags c m next ⊎ GoesOn table bag c m next} {Q = OneGoesOn table (bags ++ bag ∷ []) c} new
     (λ m b e. elim e [ inl p ↦ (p.0, (contains_pushed bags bag p.0).1 (inl p.1), p.2) | inr q ↦ (bag, (contains_pushed bags bag bag).1 (inr refl), q) ])
@@ -183,7 +190,9 @@ module _ {P : List ℕ → ℕ → List ℕ → Type 0} where
       ];
     }
 
-    pub groups_same : (old new : List Group) → ((frame : List ℕ) (m : ℕ) (bag : List ℕ) → P frame m bag → Q frame m bag) → ((frame : List ℕ) (m : ℕ) (bag : List ℕ) → Q frame m bag → P frame m bag) → AreMore P old new → AreMore Q old new
+    pub groups_same :
+        (old new : List Group) → ((frame : List ℕ) (m : ℕ) (bag : List ℕ) → P frame m bag → Q frame m bag)
+        → ((frame : List ℕ) (m : ℕ) (bag : List ℕ) → Q frame m bag → P frame m bag) → AreMore P old new → AreMore Q old new
     groups_same old new to from h = record {
       kept = h.kept;
       added = λ frame m bag q. h.added frame m bag (from frame m bag q);
@@ -193,7 +202,9 @@ module _ {P : List ℕ → ℕ → List ℕ → Type 0} where
 pub group_none : (table : Table) (c : ℕ) → AreMore (GroupsGoOn table [] c) [] []
 group_none table c = groups_none {P = GroupsGoOn table [] c} [] (λ frame m b p. contains_none p.0 p.1)
 
-pub group_more : (table : Table) (c : ℕ) (groups : List Group) (g : Group) (mid new : List Group) → AreMore (GroupsGoOn table groups c) [] mid → AreMore (GroupGoesOn table g c) mid new → AreMore (GroupsGoOn table (groups ++ g ∷ []) c) [] new
+pub group_more :
+    (table : Table) (c : ℕ) (groups : List Group) (g : Group) (mid new : List Group) → AreMore (GroupsGoOn table groups c) [] mid
+    → AreMore (GroupGoesOn table g c) mid new → AreMore (GroupsGoOn table (groups ++ g ∷ []) c) [] new
 group_more table c groups g mid new h k =
     groups_same {P = λ frame m next. GroupsGoOn table groups c frame m next ⊎ GroupGoesOn table g c frame m next} {Q = GroupsGoOn table (groups ++ g ∷ []) c} [] new
     (λ frame m b e. elim e [ inl p ↦ (p.0, (contains_pushed groups g p.0).1 (inl p.1), p.2) | inr q ↦ (g, (contains_pushed groups g g).1 (inr refl), q) ])
@@ -201,7 +212,9 @@ group_more table c groups g mid new h k =
     (groups_both {P = GroupsGoOn table groups c} {Q = GroupGoesOn table g c} [] mid new h k)
 
 -- the bags that were found become groups
-pub groups_of_next : (table : Table) (c : ℕ) (group : Group) (next : Next) (old new : List Group) → IsJust (OneGoesOn table group.bags c) next → AreMore (LeadsOn group.frame.items next) old new → AreMore (GroupGoesOn table group c) old new
+pub groups_of_next :
+    (table : Table) (c : ℕ) (group : Group) (next : Next) (old new : List Group) → IsJust (OneGoesOn table group.bags c) next
+    → AreMore (LeadsOn group.frame.items next) old new → AreMore (GroupGoesOn table group c) old new
 groups_of_next table c group next old new j h = record {
   kept = h.kept;
   added = λ frame m bag p. (let k = j.complete m bag p.1 in
@@ -216,21 +229,40 @@ LeadsBy last entries frame m bag = (frame ≡ last) × ((bags : List (List ℕ))
 pub entries_none : (last : List ℕ) (groups : List Group) → AreMore (LeadsBy last []) groups groups
 entries_none last groups = groups_none {P = LeadsBy last []} groups (λ frame m b p. contains_none _ p.1.1)
 
-pub entries_more : (last : List ℕ) (done : List (ℕ × List (List ℕ))) (m : ℕ) (bags : List (List ℕ)) (g : Group) (old mid : List Group) → AreMore (LeadsBy last done) old mid → g.frame.items ≡ last ++ m ∷ [] → g.bags ≡ bags → AreMore (LeadsBy last (done ++ (m, bags) ∷ [])) old (mid ++ g ∷ [])
+pub entries_more :
+    (last : List ℕ) (done : List (ℕ × List (List ℕ))) (m : ℕ) (bags : List (List ℕ)) (g : Group) (old mid : List Group) → AreMore (LeadsBy last done) old mid
+    → g.frame.items ≡ last ++ m ∷ [] → g.bags ≡ bags → AreMore (LeadsBy last (done ++ (m, bags) ∷ [])) old (mid ++ g ∷ [])
 entries_more last done m bags g old mid h f e = record {
   kept = λ x c. (contains_pushed mid g x).1 (inl (h.kept x c));
   added = λ frame n bag p. elim ((contains_pushed done (m, bags) (n, p.1.0)).0 p.1.1) [
     | inl d ↦ (let k = h.added frame n bag (p.0, (p.1.0, d, p.1.2)) in (k.0, k.1, (k.2.0, (contains_pushed mid g k.2.0).1 (inl k.2.1), k.2.2, k.2.3)))
-    | inr s ↦ (bag, IsPermutation-refl bag, (g, (contains_pushed mid g g).1 (inr refl), f ∙ (ap (λ ls. ls ++ m ∷ []) (sym p.0) ∙ ap (λ (z : ℕ × List (List ℕ)). frame ++ z.0 ∷ []) (sym s)), subst (λ (bs : List (List ℕ)). Contains bs bag) (ap (λ (z : ℕ × List (List ℕ)). z.1) s ∙ sym e) p.1.2))
+    | inr s ↦ (
+      bag,
+      IsPermutation-refl bag,
+      (
+        g,
+        (contains_pushed mid g g).1 (inr refl),
+        f ∙ (ap (λ ls. ls ++ m ∷ []) (sym p.0) ∙ ap (λ (z : ℕ × List (List ℕ)). frame ++ z.0 ∷ []) (sym s)),
+        subst
+            (λ (bs : List (List ℕ)). Contains bs bag) (ap (λ (z : ℕ × List (List ℕ)). z.1) s ∙ sym e) p.1.2,
+      ),
+    )
   ];
   sound = λ x c. elim ((contains_pushed mid g x).0 c) [
     | inl d ↦ elim (h.sound x d) [ inl a ↦ inl a | inr p ↦ inr (p.0, p.1, p.2, λ bag k. (let q = p.3 bag k in (q.0, (q.1.0, (contains_pushed done (m, bags) (p.1, q.1.0)).1 (inl q.1.1), q.1.2)))) ]
-    | inr s ↦ inr (last, m, ap (λ (y : Group). y.frame.items) s ∙ f, λ bag k. (refl, (bags, (contains_pushed done (m, bags) (m, bags)).1 (inr refl), subst (λ (bs : List (List ℕ)). Contains bs bag) (ap (λ (y : Group). y.bags) s ∙ e) k)))
+    | inr s ↦ inr (
+      last,
+      m,
+      ap (λ (y : Group). y.frame.items) s ∙ f,
+      λ bag k.
+          (refl, (bags, (contains_pushed done (m, bags) (m, bags)).1 (inr refl), subst (λ (bs : List (List ℕ)). Contains bs bag) (ap (λ (y : Group). y.bags) s ∙ e) k)),
+    )
   ];
 }
 
 -- one more bag at a message
-module _ (message : ℕ) (bag : List ℕ) (old new : Next) (start grown : List (List ℕ)) (taken : IsTaken (get nat_cmp old.bags message) start) (added : (b : List ℕ) → Contains grown b ↔ (Contains start b ⊎ (b ≡ bag))) (there : get nat_cmp new.bags message ≡ Some grown) (others : AreSameBut message old new) where
+module _ (message : ℕ) (bag : List ℕ) (old new : Next) (start grown : List (List ℕ)) (taken : IsTaken (get nat_cmp old.bags message) start)
+    (added : (b : List ℕ) → Contains grown b ↔ (Contains start b ⊎ (b ≡ bag))) (there : get nat_cmp new.bags message ≡ Some grown) (others : AreSameBut message old new) where
   start_there : (b : List ℕ) (o : Option (List (List ℕ))) → get nat_cmp old.bags message ≡ o → IsTaken o start → Contains start b → StandsAt old message b
   start_there b None e t c = absurd (contains_none b (subst (λ (bs : List (List ℕ)). Contains bs b) t c))
   start_there b (Some bs) e t c = (bs, e, subst (λ (x : List (List ℕ)). Contains x b) t c)

@@ -3,7 +3,7 @@ use Rattle.std.proofs.Common.{◌≡◌, ℕ, List, [], ◌∷◌, ◌++◌, len
 use Rattle.std.specs.Prelude.{◌⊎◌, ◌↔◌, Contains, slice_get}
 use Rattle.std.proofs.lemmas.Option.{slice_get_read}
 use Rattle.dps_process.specs.Process.{Process, output}
-use Rattle.dps_process.specs.Steps.{Config, Takes}
+use Rattle.dps_process.specs.Steps.{Config, Removes}
 use Rattle.dps_process.proofs.Bags.{reordered_refl, reordered_sym, taken_reordered}
 use Rattle.dps_tree.specs.Table.{frame_of}
 use Rattle.dps_tree.specs.Groups.{Holds, AreNamed}
@@ -12,7 +12,7 @@ use Rattle.dps_tree.specs.declared.table.Output.{Output}
 use Rattle.dps_tree.specs.declared.table.Table.{Table}
 use Rattle.dps_tree.specs.declared.group.Group.{Group}
 use Rattle.dps_tree.proofs.Holding.{contains_none, contains_pushed, contains_at}
-use Rattle.dps_tree.proofs.Standing.{stands_for, stand_around, stand_at}
+use Rattle.dps_tree.proofs.OutputNumbers.{stands_for, stand_around, stand_at}
 
 module _ {P : ℕ → Type 0} where
   pub offers_none : (old : List ℕ) → ((c : ℕ) → ¬ P c) → AddsOffers P old old
@@ -47,7 +47,9 @@ module _ {A : Type 0} (P : A → ℕ → Type 0) where
       (offers_both {P = OneIs xs} {Q = P x} old mid new h g)
 
 -- one number
-pub number_added : (table : Table) (n : ℕ) (o : Output) (old new : List ℕ) → slice_get table.outputs.items n ≡ Some o → ((c : ℕ) → Contains new c ↔ (Contains old c ⊎ (c ≡ o.channel))) → AddsOffers (NumberOffers table n) old new
+pub number_added :
+    (table : Table) (n : ℕ) (o : Output) (old new : List ℕ) → slice_get table.outputs.items n ≡ Some o
+    → ((c : ℕ) → Contains new c ↔ (Contains old c ⊎ (c ≡ o.channel))) → AddsOffers (NumberOffers table n) old new
 number_added table n o old new e h c = (
   λ a. elim ((h c).0 a) [ inl b ↦ inl b | inr s ↦ inr (o, e, sym s) ],
   elim [ inl a ↦ (h c).1 (inl a) | inr p ↦ (h c).1 (inr (sym p.2 ∙ ap (λ (x : Output). x.channel) (one p.0 p.1))) ],
@@ -73,7 +75,7 @@ groups_offered table groups c named h =
     let channel : s.output_of.channel ≡ c = ap (λ (x : Output). x.channel) o ∙ h.2.2.2.2 in
     let part : a.part ≡ output c s.message s.then = s.same ∙ ap (λ n. output n s.message s.then) channel in
     let k : Config = record { parts = p.0; frame = frame_of table g.frame.items } in
-    (k, (g, h.1, record { bag = bag; there = h.2.1; parts = (p.0, p.1, reordered_refl p.0); frame = refl }), (s.message, s.then, a.rest, subst (λ (x : Process). Takes x p.0 a.rest) part a.taken))
+    (k, (g, h.1, record { bag = bag; there = h.2.1; parts = (p.0, p.1, reordered_refl p.0); frame = refl }), (s.message, s.then, a.rest, subst (λ (x : Process). Removes x p.0 a.rest) part a.taken))
 
 pub offered_groups : (table : Table) (groups : List Group) (c : ℕ) → OneOffers (Holds table groups) c → GroupsOffer table groups c
 offered_groups table groups c h =

@@ -12,8 +12,8 @@ use Rattle.dps_process.specs.Process.{Process, process_nodes}
 use Rattle.dps_process.specs.Problem.{Problem, side_of, IsLawful}
 use Rattle.dps_process.specs.Steps.{Config, Label}
 use Rattle.dps_process.specs.Traces.{IsEquivalent, IsTraceOf, IsAttack, Matches, IsIncluded}
-use Rattle.dps_process.proofs.Keeping.{traces_end_in_frames}
-use Rattle.dps_process.proofs.Tracing.{attack_refutes}
+use Rattle.dps_process.proofs.LawfulRuns.{traces_end_in_frames}
+use Rattle.dps_process.proofs.TraceEquivalence.{attack_refutes}
 use Rattle.dps_tree.specs.Plain.{IsPlain}
 use Rattle.dps_tree.specs.Words.{word_of, IsUpTo, IsAhead}
 use Rattle.dps_tree.specs.Answer.{IsLeastAttack}
@@ -55,7 +55,9 @@ pub record IsNodeOf (problem : Problem) (table : Table) (n : Node) : Type 0 wher
   pub named : IsNamedNode table n
   pub short : length n.channels.items ≤ longest problem
 
-pub continues_of : (problem : Problem) (table : Table) (n : Node) (side : Side) → IsNodeOf problem table n → Continues (settled (side_of problem side)) n.channels.items (Holds table (groups_of n side))
+pub continues_of :
+    (problem : Problem) (table : Table) (n : Node) (side : Side) → IsNodeOf problem table n
+    → Continues (settled (side_of problem side)) n.channels.items (Holds table (groups_of n side))
 continues_of problem table n Left h = h.left
 continues_of problem table n Right h = h.right
 
@@ -76,14 +78,18 @@ pub record IsPending (problem : Problem) (table : Table) (pending : List Node) :
   pub ordered : AreInOrder pending
   pub unfinished : (side : Side) (cs : List ℕ) (frame : List Tree) → Plays (settled (side_of problem side)) cs frame → IsMatchedWord problem side cs frame ⊎ IsBelow pending cs
 
-pub root_pending : (problem : Problem) (table : Table) (left right : List ℕ) (root : Node) → StandForBag table left (settled problem.left) → StandForBag table right (settled problem.right) → IsRoot table left right root → IsPending problem table (root ∷ [])
+pub root_pending :
+    (problem : Problem) (table : Table) (left right : List ℕ) (root : Node) → StandForBag table left (settled problem.left)
+    → StandForBag table right (settled problem.right) → IsRoot table left right root → IsPending problem table (root ∷ [])
 root_pending problem table left right root l r h = record {
   nodes = λ n c. subst (IsNodeOf problem table) (sym (contains_one root n c)) whole;
   ordered = (λ m c. absurd (contains_none m c), tt);
   unfinished = λ side cs frame k. inr (root, contains_first root [], (cs, ap (λ w. w ++ cs) (sym h.channels)));
 }
   where
-    continues : (p : Process) (bag : List ℕ) (groups : List Group) → StandForBag table bag (settled p) → AreStarts table bag (Holds table groups) → Continues (settled p) root.channels.items (Holds table groups)
+    continues :
+        (p : Process) (bag : List ℕ) (groups : List Group) → StandForBag table bag (settled p) → AreStarts table bag (Holds table groups)
+        → Continues (settled p) root.channels.items (Holds table groups)
     continues p bag groups b s =
         subst (λ (w : List ℕ). Continues (settled p) w (Holds table groups)) (sym h.channels) (root_continues table bag p (Holds table groups) b s)
 
@@ -117,10 +123,10 @@ module _ (problem : Problem) (table : Table) (lawful : IsLawful problem) (plain 
   side_plain side = plain_side problem side lawful plain
 
   played : (side : Side) (word : List Label) (frame : List Tree) → IsTraceOf problem side word frame → (cs : List ℕ) × (word ≡ word_of cs) × Plays (settled (side_of problem side)) cs frame
-  played side word frame t = trace_played problem.signature problem.theory lawful.theory.same_symbols (side_of problem side) word frame (side_plain side) t
+  played side word frame t = trace_played problem.model problem.signature problem.theory lawful.theory.same_symbols (side_of problem side) word frame (side_plain side) t
 
   traced : (side : Side) (cs : List ℕ) (frame : List Tree) → Plays (settled (side_of problem side)) cs frame → IsTraceOf problem side (word_of cs) frame
-  traced side cs frame r = played_trace problem.signature problem.theory lawful.theory.same_symbols (side_of problem side) cs frame (side_plain side) r
+  traced side cs frame r = played_trace problem.model problem.signature problem.theory lawful.theory.same_symbols (side_of problem side) cs frame (side_plain side) r
 
   played_word : (side : Side) (cs : List ℕ) (frame : List Tree) → IsTraceOf problem side (word_of cs) frame → Plays (settled (side_of problem side)) cs frame
   played_word side cs frame t =
@@ -161,18 +167,29 @@ module _ (problem : Problem) (table : Table) (lawful : IsLawful problem) (plain 
   short_of cs frame Right r = let h = played_short r in omega (arith, settled_le problem.right)
 
   -- where the frames of a side are matched, its traces with these channels are
-  matched_here : (n : Node) (side : Side) (frame : List Tree) → IsNodeOf problem table n → AreMatched problem.signature problem.theory (frames_of table n side) (frames_of table n (opposite side)) → Plays (settled (side_of problem side)) n.channels.items frame → IsMatchedWord problem side n.channels.items frame
+  matched_here :
+      (n : Node) (side : Side) (frame : List Tree) → IsNodeOf problem table n
+      → AreMatched problem.signature problem.theory (frames_of table n side) (frames_of table n (opposite side))
+      → Plays (settled (side_of problem side)) n.channels.items frame → IsMatchedWord problem side n.channels.items frame
   matched_here n side frame h m r =
       let j = m frame (plays_held n side frame h r) in (j.0, held_plays n (opposite side) j.0 h j.1, j.2)
 
-  matches : (side : Side) (cs : List ℕ) (frame : List Tree) → IsMatchedWord problem side cs frame → Matches problem.signature problem.theory (side_of problem (opposite side)) (word_of cs) frame
+  matches :
+      (side : Side) (cs : List ℕ) (frame : List Tree) → IsMatchedWord problem side cs frame
+      → Matches problem.model problem.signature problem.theory (side_of problem (opposite side)) (word_of cs) frame
   matches side cs frame m = record { other = m.0; trace = traced (opposite side) cs m.0 m.1; equivalent = m.2 }
 
-  no_attack_here : (n : Node) (side : Side) → IsNodeOf problem table n → AreMatched problem.signature problem.theory (frames_of table n side) (frames_of table n (opposite side)) → ¬ IsAttack problem side (word_of n.channels.items)
+  no_attack_here :
+      (n : Node) (side : Side) → IsNodeOf problem table n
+      → AreMatched problem.signature problem.theory (frames_of table n side) (frames_of table n (opposite side))
+      → ¬ IsAttack problem side (word_of n.channels.items)
   no_attack_here n side h m a =
       a.unmatched (matches side n.channels.items a.frame (matched_here n side a.frame h m (played_word side n.channels.items a.frame a.trace)))
 
-  attack_here : (n : Node) (side : Side) → IsNodeOf problem table n → OneIsUnmatched problem.signature problem.theory (frames_of table n side) (frames_of table n (opposite side)) → IsAttack problem side (word_of n.channels.items)
+  attack_here :
+      (n : Node) (side : Side) → IsNodeOf problem table n
+      → OneIsUnmatched problem.signature problem.theory (frames_of table n side) (frames_of table n (opposite side))
+      → IsAttack problem side (word_of n.channels.items)
   attack_here n side h u = record {
     frame = u.0;
     trace = traced side n.channels.items u.0 (held_plays n side u.0 h u.1);
@@ -181,11 +198,29 @@ module _ (problem : Problem) (table : Table) (lawful : IsLawful problem) (plain 
   }
 
   -- each attack goes on from a node that is still to be looked at, so it is not before the last one
-  least_here : (rest : List Node) (n : Node) → IsPending problem table (rest ++ n ∷ []) → (other : Side) (word : List Label) → IsAttack problem other word → (cs : List ℕ) × (word ≡ word_of cs) × IsUpTo n.channels.items cs
+  least_here :
+      (rest : List Node) (n : Node) → IsPending problem table (rest ++ n ∷ []) → (other : Side) (word : List Label) → IsAttack problem other word
+      → (cs : List ℕ) × (word ≡ word_of cs) × IsUpTo n.channels.items cs
   least_here rest n h other word a =
-      let r = played other word a.frame a.trace in (r.0, r.1, elim (h.unfinished other r.0 a.frame r.2) [ inl m ↦ absurd (a.unmatched (subst (λ (w : List Label). Matches problem.signature problem.theory (side_of problem (opposite other)) w a.frame) (sym r.1) (matches other r.0 a.frame m))) | inr b ↦ subst (λ (w : List ℕ). IsUpTo n.channels.items w) (sym b.2.1) (elim ((contains_pushed rest n b.0).0 b.1) [ inl c ↦ up_to_ahead n.channels.items b.0.channels.items b.2.0 ((in_order_split rest n h.ordered).1 b.0 c) | inr e ↦ subst (λ (m : Node). IsUpTo n.channels.items (m.channels.items ++ b.2.0)) (sym e) (up_to_front n.channels.items b.2.0) ]) ])
+      let r = played other word a.frame a.trace in (
+        r.0,
+        r.1,
+        elim (h.unfinished other r.0 a.frame r.2) [
+          | inl m ↦ absurd (a.unmatched
+              (subst (λ (w : List Label). Matches problem.model problem.signature problem.theory (side_of problem (opposite other)) w a.frame) (sym r.1) (matches other r.0 a.frame m)))
+          | inr b ↦
+              subst (λ (w : List ℕ). IsUpTo n.channels.items w) (sym b.2.1)
+              (elim ((contains_pushed rest n b.0).0 b.1) [
+                | inl c ↦ up_to_ahead n.channels.items b.0.channels.items b.2.0 ((in_order_split rest n h.ordered).1 b.0 c)
+                | inr e ↦ subst
+                    (λ (m : Node). IsUpTo n.channels.items (m.channels.items ++ b.2.0)) (sym e) (up_to_front n.channels.items b.2.0)
+              ])
+        ],
+      )
 
-  pub attacked : (rest : List Node) (n : Node) (side : Side) → IsPending problem table (rest ++ n ∷ []) → SideAnswer table n problem.signature problem.theory (Some side) → IsLeastAttack problem side n.channels.items
+  pub attacked :
+      (rest : List Node) (n : Node) (side : Side) → IsPending problem table (rest ++ n ∷ []) → SideAnswer table n problem.signature problem.theory (Some side)
+      → IsLeastAttack problem side n.channels.items
   attacked rest n Left h u = record {
     attack = attack_here n Left (last_node problem table rest n h) u;
     least = least_here rest n h;
@@ -217,35 +252,58 @@ module _ (problem : Problem) (table : Table) (lawful : IsLawful problem) (plain 
   offers_node n Left c f = inl f
   offers_node n Right c f = inr f
 
-  matched_side : (n : Node) (side : Side) → SideAnswer table n problem.signature problem.theory None → AreMatched problem.signature problem.theory (frames_of table n side) (frames_of table n (opposite side))
+  matched_side :
+      (n : Node) (side : Side) → SideAnswer table n problem.signature problem.theory None
+      → AreMatched problem.signature problem.theory (frames_of table n side) (frames_of table n (opposite side))
   matched_side n Left m = m.0
   matched_side n Right m = m.1
 
-  goes_on : (rest : List Node) (n : Node) (children : List Node) (side : Side) (cs : List ℕ) (frame : List Tree) → IsNodeOf problem table n → SideAnswer table n problem.signature problem.theory None → AreChildren table n children → Plays (settled (side_of problem side)) cs frame → (ds : List ℕ) → cs ≡ n.channels.items ++ ds → IsMatchedWord problem side cs frame ⊎ IsBelow (rest ++ children) cs
+  goes_on :
+      (rest : List Node) (n : Node) (children : List Node) (side : Side) (cs : List ℕ) (frame : List Tree) → IsNodeOf problem table n
+      → SideAnswer table n problem.signature problem.theory None → AreChildren table n children → Plays (settled (side_of problem side)) cs frame
+      → (ds : List ℕ) → cs ≡ n.channels.items ++ ds → IsMatchedWord problem side cs frame ⊎ IsBelow (rest ++ children) cs
   goes_on rest n children side cs frame h m k r [] e =
       let same : cs ≡ n.channels.items = e ∙ append-nil n.channels.items in
-      inl (subst (λ (w : List ℕ). IsMatchedWord problem side w frame) (sym same) (matched_here n side frame h (matched_side n side m) (subst (λ (w : List ℕ). Plays (settled (side_of problem side)) w frame) same r)))
+      inl (subst (λ (w : List ℕ). IsMatchedWord problem side w frame) (sym same)
+      (matched_here n side frame h (matched_side n side m) (subst (λ (w : List ℕ). Plays (settled (side_of problem side)) w frame) same r)))
   goes_on rest n children side cs frame h m k r (d ∷ ds) e =
       let f = (continues_of problem table n side h).complete (d ∷ ds) frame (subst (λ (w : List ℕ). Plays (settled (side_of problem side)) w frame) e r) in
       let o = offers_node n side d (f.0, f.1, plays_offered f.0 d ds f.2.0 f.2.1) in
       let child = k.complete d o in
       inr (child.0, Contains-append_right rest children child.0 child.1, (ds, longer n.channels.items ds cs d e ∙ ap (λ w. w ++ ds) (sym child.2)))
 
-  pub looked_at : (rest : List Node) (n : Node) (children : List Node) → IsPending problem table (rest ++ n ∷ []) → SideAnswer table n problem.signature problem.theory None → AreChildren table n children → IsPending problem table (rest ++ children)
+  pub looked_at :
+      (rest : List Node) (n : Node) (children : List Node) → IsPending problem table (rest ++ n ∷ []) → SideAnswer table n problem.signature problem.theory None
+      → AreChildren table n children → IsPending problem table (rest ++ children)
   looked_at rest n children h m k =
       let here = last_node problem table rest n h in
       let split = in_order_split rest n h.ordered in
       record {
         nodes = λ a c. elim (Contains-append_cases rest children a c) [ inl d ↦ h.nodes a ((contains_pushed rest n a).1 (inl d)) | inr d ↦ (let f = k.offered a d in child_of n a f.0 here f.1 f.2) ];
-        ordered = in_order_append rest children split.0 k.ordered (λ a b c d. (let f = k.offered b d in subst (λ (w : List ℕ). IsAhead w a.channels.items) (sym f.2.channels) (ahead_longer n.channels.items a.channels.items (f.0 ∷ []) (split.1 a c))));
-        unfinished = λ side cs frame r. elim (h.unfinished side cs frame r) [ inl w ↦ inl w | inr b ↦ elim ((contains_pushed rest n b.0).0 b.1) [ inl c ↦ inr (b.0, Contains-append_left rest children b.0 c, b.2) | inr e ↦ goes_on rest n children side cs frame here m k r b.2.0 (b.2.1 ∙ ap (λ (a : Node). a.channels.items ++ b.2.0) e) ] ];
+        ordered =
+            in_order_append
+            rest
+            children
+            split.0
+            k.ordered
+            (λ a b c d. (let f = k.offered b d in subst (λ (w : List ℕ). IsAhead w a.channels.items) (sym f.2.channels) (ahead_longer n.channels.items a.channels.items (f.0 ∷ []) (split.1 a c))));
+        unfinished =
+            λ side cs frame r. elim (h.unfinished side cs frame r) [
+              | inl w ↦ inl w
+              | inr b ↦ elim ((contains_pushed rest n b.0).0 b.1) [
+                | inl c ↦ inr (b.0, Contains-append_left rest children b.0 c, b.2)
+                | inr e ↦ goes_on rest n children side cs frame here m k r b.2.0
+                    (b.2.1 ∙ ap (λ (a : Node). a.channels.items ++ b.2.0) e)
+              ]
+            ];
       }
 
   -- where no node is left, each trace is matched
-  included : (side : Side) → IsPending problem table [] → IsIncluded problem.signature problem.theory (side_of problem side) (side_of problem (opposite side))
+  included : (side : Side) → IsPending problem table [] → IsIncluded problem.model problem.signature problem.theory (side_of problem side) (side_of problem (opposite side))
   included side h = record {
     matched = λ word frame t. (let r = played side word frame t in
-        subst (λ (w : List Label). Matches problem.signature problem.theory (side_of problem (opposite side)) w frame) (sym r.1) (matches side r.0 frame (elim (h.unfinished side r.0 frame r.2) [ inl m ↦ m | inr b ↦ absurd (contains_none b.0 b.1) ])));
+        subst (λ (w : List Label). Matches problem.model problem.signature problem.theory (side_of problem (opposite side)) w frame) (sym r.1)
+        (matches side r.0 frame (elim (h.unfinished side r.0 frame r.2) [ inl m ↦ m | inr b ↦ absurd (contains_none b.0 b.1) ])));
   }
 
   pub none_pending : IsPending problem table [] → IsEquivalent problem × ((side : Side) (word : List Label) → ¬ IsAttack problem side word)

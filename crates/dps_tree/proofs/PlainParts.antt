@@ -3,7 +3,7 @@ use Rattle.std.proofs.Common.{List, [], ◌∷◌, ◌++◌}
 use Rattle.std.specs.Prelude.{⊤}
 use Rattle.dps_terms.specs.Signature.{Signature, IsPublic}
 use Rattle.dps_process.specs.Process.{Process, nil, parallel, choice, conditional, bind, input, output}
-use Rattle.dps_process.specs.Steps.{Takes, here, there}
+use Rattle.dps_process.specs.Steps.{Removes, here, there}
 use Rattle.dps_process.proofs.Values.{IsMessageOver}
 use Rattle.dps_tree.specs.Playing.{settled}
 
@@ -21,7 +21,7 @@ module _ (signature : Signature) where
   ArePlain [] = ⊤
   ArePlain (p ∷ ps) = IsPlainPart p × ArePlain ps
 
-  pub plain_taken : {p : Process} {ps rest : List Process} → Takes p ps rest → ArePlain ps → IsPlainPart p × ArePlain rest
+  pub plain_taken : {p : Process} {ps rest : List Process} → Removes p ps rest → ArePlain ps → IsPlainPart p × ArePlain rest
   plain_taken here h = h
   plain_taken (there t) h = let k = plain_taken t h.1 in (k.0, (h.0, k.1))
 

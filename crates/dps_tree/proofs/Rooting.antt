@@ -2,7 +2,7 @@
 use Rattle.std.proofs.Common.{◌≡◌, ℕ, ◌+◌, List, [], ◌∷◌, ◌++◌, refl, sym, ◌∙◌, ap, subst, take, drop}
 use Rattle.dps_terms.specs.Tree.{Tree}
 use Rattle.dps_process.specs.Process.{Process, output}
-use Rattle.dps_process.specs.Steps.{Config, Takes, IsReordered}
+use Rattle.dps_process.specs.Steps.{Config, Removes, IsReordered}
 use Rattle.dps_process.proofs.Bags.{reordered_refl, reordered_sym}
 use Rattle.dps_tree.specs.Playing.{settled}
 use Rattle.dps_process.specs.Problem.{Problem}
@@ -14,7 +14,7 @@ use Rattle.dps_tree.specs.declared.table.Output.{Output}
 use Rattle.dps_tree.specs.declared.table.Table.{Table}
 use Rattle.dps_tree.proofs.Plays.{Plays, stops, plays, plays_reordered}
 use Rattle.dps_tree.proofs.Continuing.{Continues}
-use Rattle.dps_tree.proofs.Standing.{bag_grown, stands_for, stand_around, stand_at, stand_append, reordered_append}
+use Rattle.dps_tree.proofs.OutputNumbers.{bag_grown, stands_for, stand_around, stand_at, stand_append, reordered_append}
 
 played_alike : (table : Table) (cs : List ℕ) (ms : List Tree) (ns : List ℕ) (ps qs : List Process) → Plays ps cs ms → StandFor table ns ps → StandFor table ns qs → Plays qs cs ms
 played_alike table [] ms ns ps qs stops h k = stops
@@ -28,11 +28,13 @@ played_alike table (c ∷ cs) ms ns ps qs (plays {u = u} {q} {rest = rest} {ms =
     let then : s.then ≡ q = cc (s.same) in
     let taken : b.part ≡ output c u z.then = z.same ∙ cc (s.same, message, ap (λ (x : Output). x.channel) o) in
     let others = take a.place ns ++ drop (a.place + 1) ns in
-    let order : IsReordered (settled q ++ rest) (s.parts ++ rest) = reordered_append (settled q) s.parts (reordered_sym (subst (λ (p : Process). IsReordered s.parts (settled p)) then s.order)) (reordered_refl rest) in
+    let order : IsReordered (settled q ++ rest) (s.parts ++ rest) = reordered_append (settled q) s.parts (reordered_sym (subst (λ (p : Process). IsReordered s.parts (settled p)) then s.order))
+    (reordered_refl rest) in
     let below : StandFor table s.output_of.then.items z.parts = subst (λ (x : Output). StandFor table x.then.items z.parts) (sym o) z.below in
-    let alike = played_alike table cs later (s.output_of.then.items ++ others) (s.parts ++ rest) (z.parts ++ b.rest) (plays_reordered r order) (stand_append s.below a.others) (stand_append below b.others) in
+    let alike = played_alike table cs later (s.output_of.then.items ++ others) (s.parts ++ rest) (z.parts ++ b.rest) (plays_reordered r order) (stand_append s.below a.others)
+    (stand_append below b.others) in
     let back = plays_reordered alike (reordered_append z.parts (settled z.then) z.order (reordered_refl b.rest)) in
-    plays (subst (λ (p : Process). Takes p qs b.rest) taken b.taken) back
+    plays (subst (λ (p : Process). Removes p qs b.rest) taken b.taken) back
 
 bag_alike : (table : Table) (cs : List ℕ) (ms : List Tree) (bag : List ℕ) (ps qs : List Process) → Plays ps cs ms → StandForBag table bag ps → StandForBag table bag qs → Plays qs cs ms
 bag_alike table cs ms bag ps qs r h k =
@@ -50,7 +52,9 @@ pub record HasBags (problem : Problem) (table : Table) (left right : List ℕ) :
   pub on_left : StandForBag table left (settled problem.left)
   pub on_right : StandForBag table right (settled problem.right)
 
-pub both_bags : (problem : Problem) (first second third : Table) (left right : List ℕ) → IsPlain problem → IsBagOf problem.left first second left → IsBagOf problem.right second third right → HasBags problem third left right
+pub both_bags :
+    (problem : Problem) (first second third : Table) (left right : List ℕ) → IsPlain problem → IsBagOf problem.left first second left
+    → IsBagOf problem.right second third right → HasBags problem third left right
 both_bags problem first second third left right plain l r = record {
   on_left = bag_grown r.grown (l.parts problem.signature plain.left);
   on_right = r.parts problem.signature plain.right;

@@ -39,12 +39,16 @@ power_some b (suc k) h = let s = power_some b k h in let m = mul-le-mul_left (po
 few_fall : (w k b s : ℕ) → k < b → 1 ≤ w → s ≤ w * k → s < w * b
 few_fall w k b s h g l = let e : k + 1 ≤ b = omega arith in let m = mul-le-mul_left w e in omega (arith, m)
 
-pub children_weigh_less : (problem : Problem) (table : Table) (rest : List Node) (n : Node) (children : List Node) → IsNodeOf problem table n → AreChildren table n children → length children < 2 ^ 64 → total (weight problem) (rest ++ children) < total (weight problem) (rest ++ n ∷ [])
+pub children_weigh_less :
+    (problem : Problem) (table : Table) (rest : List Node) (n : Node) (children : List Node) → IsNodeOf problem table n → AreChildren table n children
+    → length children < 2 ^ 64 → total (weight problem) (rest ++ children) < total (weight problem) (rest ++ n ∷ [])
 children_weigh_less problem table rest n children h k few =
     let short = h.short in
     let node : longest problem + 1 - length n.channels.items ≡ suc (longest problem - length n.channels.items) = omega arith in
-    let each : (m : Node) → Contains children m → weight problem m ≡ power (2 ^ 64) (longest problem - length n.channels.items) = λ m c. ap (power (2 ^ 64)) (left_of m (k.offered m c).0 (k.offered m c).2) in
-    let less = few_fall (power (2 ^ 64) (longest problem - length n.channels.items)) (length children) (2 ^ 64) (total (weight problem) children) few (power_some (2 ^ 64) (longest problem - length n.channels.items) (lit< tt)) (total_le (weight problem) (power (2 ^ 64) (longest problem - length n.channels.items)) children each) in
+    let each : (m : Node) → Contains children m → weight problem m ≡ power (2 ^ 64) (longest problem - length n.channels.items) = λ m c. ap (power (2 ^ 64))
+    (left_of m (k.offered m c).0 (k.offered m c).2) in
+    let less = few_fall (power (2 ^ 64) (longest problem - length n.channels.items)) (length children) (2 ^ 64) (total (weight problem) children) few
+    (power_some (2 ^ 64) (longest problem - length n.channels.items) (lit< tt)) (total_le (weight problem) (power (2 ^ 64) (longest problem - length n.channels.items)) children each) in
     let whole : weight problem n ≡ power (2 ^ 64) (longest problem - length n.channels.items) * (2 ^ 64) = ap (power (2 ^ 64)) node in
     omega (arith, total-append (weight problem) rest children, total-append (weight problem) rest (n ∷ []), less, whole)
   where

@@ -40,7 +40,7 @@ impl Next {
         Ok(())
     }
 
-    /// Takes the bags out that stand at a message, which may be none.
+    /// Removes the bags out that stand at a message, which may be none.
     fn take(&mut self, alloc: Global, message: usize) -> Bags
         ensures taken { IsTaken (get nat_cmp self.old.bags message) result }
         ensures others { AreSameBut message self.old self.new }

@@ -3,10 +3,10 @@ ghost use Rattle.std.specs.Prelude.{◌≡◌, ◌↔◌, IfOk, OnOk, IfSome, Ma
 ghost use Rattle.dps_terms.specs.Seen.{seen};
 ghost use Rattle.dps_tree.specs.Table.{HasMessage, HasOutput, AreOneOutput, IsSettled, IsBagOf, frame_of, IsMessageThere, IsOutputThere};
 
-use crate::digest::{mixed, with_numbers, with_term};
+use crate::digest::with_numbers;
 use crate::places::Places;
 use dps_process::{Process, ProcessView};
-use dps_terms::{NoMemory, Term, TermRef};
+use dps_terms::{NoMemory, Term, TermRef, mixed};
 use std::alloc::{AllocError, Global};
 
 /// An output: its channel, the number of its message, and the numbers of the outputs to which it then comes, in ascending
@@ -91,7 +91,7 @@ impl<'a> Table<'a> {
     fn message_number(&mut self, alloc: Global, message: &'a Term) -> Result<usize, NoMemory>
         ensures { IfOk result (HasMessage self.old self.new message.now) }
     {
-        let digest = with_term(0, message.whole());
+        let digest = message.whole().digest();
         let places = self.message_places.of(digest);
         if let Some(number) = message_among(&self.messages, places, message.whole()) {
             return Ok(number);

@@ -1,7 +1,7 @@
 //! A table of problems, equivalent or with their least attacks.
 use crate::{PlainAttack, is_plain, plain_check};
 use dps_branch::Side;
-use dps_process::{Problem, Process};
+use dps_process::{CommModel, Problem, Process};
 use dps_terms::{NoMemory, PublicName, Signature, Term, is_identifier};
 use dps_theory::Theory;
 use std::alloc::{AllocError, Global};
@@ -56,7 +56,7 @@ fn problem(
 ) -> Result<Option<Problem>, NoMemory> {
     let theory = Theory::without_rules(alloc, &signature)?;
     let _ = theory.rules();
-    Ok(Problem::check(signature, theory, left, right))
+    Ok(Problem::check(signature, theory, CommModel::Private, left, right))
 }
 
 /// The answer as a number: 0 for none, and else the digits of the channels behind 1 for the left side or 2 for the right one.

@@ -11,7 +11,8 @@ returns-in-Some c = λ signature common is_message.
     subst (λ f. IsSaturation c.args.theory.now f c.in_ok-knowledge.knowledge.recipes.items c.in_ok-knowledge.knowledge.kept) e c.in_ok-knowledge.ensures.saturation in
     let b : Builds c.in_ok-knowledge.knowledge.kept c.args.message.now c.in-Some.found = rw (c.in-Some.is, c.whole.ensures) at c.in_ok-found.ensures in
     rw (c.in_ok-recipe-in-Some.ensures, c.deref-in-Some.ensures.value, c.whole-in-Some.ensures)
-    (built_deduced c.args.theory.now c.is_lawful.ensures.accepted c.is_lawful.ensures.plain c.args.frame.now c.in_ok-knowledge.knowledge.recipes.items c.in_ok-knowledge.knowledge.kept s c.args.message.now signature common is_message c.in-Some.found b)
+    (built_deduced c.args.theory.now c.is_lawful.ensures.accepted c.is_lawful.ensures.plain c.args.frame.now c.in_ok-knowledge.knowledge.recipes.items c.in_ok-knowledge.knowledge.kept s
+    c.args.message.now signature common is_message c.in-Some.found b)
 
 pub returns : goal.returns
 returns c = λ signature common is_message.
@@ -19,4 +20,5 @@ returns c = λ signature common is_message.
     let s : IsSaturation c.args.theory.now c.args.frame.now c.in_ok-knowledge.knowledge.recipes.items c.in_ok-knowledge.knowledge.kept =
     subst (λ f. IsSaturation c.args.theory.now f c.in_ok-knowledge.knowledge.recipes.items c.in_ok-knowledge.knowledge.kept) e c.in_ok-knowledge.ensures.saturation in
     let b : IsNotBuilt c.in_ok-knowledge.knowledge.kept c.args.message.now = rw (c.in-None.is, c.whole.ensures) at c.in_ok-found.ensures in
-    not_built c.args.theory.now c.is_lawful.ensures.accepted c.is_lawful.ensures.plain c.args.frame.now c.in_ok-knowledge.knowledge.recipes.items c.in_ok-knowledge.knowledge.kept s c.args.message.now signature common is_message b
+    not_built c.args.theory.now c.is_lawful.ensures.accepted c.is_lawful.ensures.plain c.args.frame.now c.in_ok-knowledge.knowledge.recipes.items c.in_ok-knowledge.knowledge.kept s
+    c.args.message.now signature common is_message b

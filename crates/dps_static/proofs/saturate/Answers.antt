@@ -16,4 +16,5 @@ returns c =
     subst (λ f. IsSaturation c.args.theory.now f c.in_ok-knowledge.knowledge.recipes.items c.in_ok-knowledge.knowledge.kept) e c.in_ok-knowledge.ensures.saturation in
     let p : ArePairsOf c.in_ok-knowledge.knowledge.recipes.items c.in_ok-knowledge.knowledge.kept c.in_ok-pairs.pairs.items =
     rw (c.deref-2.ensures.value, c.trees.ensures) at c.in_ok-pairs.ensures in
-    pairs_saturate c.args.theory.now c.is_lawful.ensures.accepted c.is_lawful.ensures.plain c.args.frame.now c.in_ok-knowledge.knowledge.recipes.items c.in_ok-knowledge.knowledge.kept s c.in_ok-pairs.pairs.items p
+    pairs_saturate c.args.theory.now c.is_lawful.ensures.accepted c.is_lawful.ensures.plain c.args.frame.now c.in_ok-knowledge.knowledge.recipes.items c.in_ok-knowledge.knowledge.kept s
+    c.in_ok-pairs.pairs.items p

@@ -13,7 +13,8 @@ loop-node-init c =
     let left = rw c.side.ensures.process at c.in_ok-left.ensures in
     let right = rw c.side-2.ensures.process at c.in_ok-right.ensures in
     let bags = both_bags c.args.problem.now c.new-table.result c.bag.new.self c.bag-2.new.self c.in_ok-left.left.items c.in_ok-right.right.items c.requires left right in
-    rw (c.in_ok-push.ensures.items, c.new-pending.ensures.items) (root_pending c.args.problem.now c.bag-2.new.self c.in_ok-left.left.items c.in_ok-right.right.items c.in_ok-root.field-0 bags.on_left bags.on_right c.in_ok-root.ensures)
+    rw (c.in_ok-push.ensures.items, c.new-pending.ensures.items)
+    (root_pending c.args.problem.now c.bag-2.new.self c.in_ok-left.left.items c.in_ok-right.right.items c.in_ok-root.field-0 bags.on_left bags.on_right c.in_ok-root.ensures)
 
 pub root-requires-clause-on_left : goal.root-requires-clause-on_left
 root-requires-clause-on_left c =
@@ -45,9 +46,11 @@ returns-in-Some-2 c =
     let lawful = c.side.ensures.lawful in
     let pending = subst (IsPending problem c.bag-2.new.self) c.in-Some.ensures.items c.loop-node.invariant in
     let node = last_node problem c.bag-2.new.self c.pop.new.self.items c.in-Some.node pending in
-    let answer = (rw c.theory.ensures.theory at c.in_ok-side.ensures) problem.signature (node_frames problem c.bag-2.new.self lawful c.requires c.in-Some.node Left node) (node_frames problem c.bag-2.new.self lawful c.requires c.in-Some.node Right node) in
+    let answer = (rw c.theory.ensures.theory at c.in_ok-side.ensures) problem.signature (node_frames problem c.bag-2.new.self lawful c.requires c.in-Some.node Left node)
+    (node_frames problem c.bag-2.new.self lawful c.requires c.in-Some.node Right node) in
     rw c.into_channels.ensures
-    (attacked problem c.bag-2.new.self lawful c.requires c.pop.new.self.items c.in-Some.node c.in-Some-2.side pending (subst (SideAnswer c.bag-2.new.self c.in-Some.node problem.signature problem.theory) c.in-Some-2.is answer))
+    (attacked problem c.bag-2.new.self lawful c.requires c.pop.new.self.items c.in-Some.node c.in-Some-2.side pending
+    (subst (SideAnswer c.bag-2.new.self c.in-Some.node problem.signature problem.theory) c.in-Some-2.is answer))
 
 pub loop-node-preserved : goal.loop-node-preserved
 loop-node-preserved c =
@@ -55,9 +58,11 @@ loop-node-preserved c =
     let lawful = c.side.ensures.lawful in
     let pending = subst (IsPending problem c.bag-2.new.self) c.in-Some.ensures.items c.loop-node.invariant in
     let node = last_node problem c.bag-2.new.self c.pop.new.self.items c.in-Some.node pending in
-    let answer = (rw c.theory.ensures.theory at c.in_ok-side.ensures) problem.signature (node_frames problem c.bag-2.new.self lawful c.requires c.in-Some.node Left node) (node_frames problem c.bag-2.new.self lawful c.requires c.in-Some.node Right node) in
+    let answer = (rw c.theory.ensures.theory at c.in_ok-side.ensures) problem.signature (node_frames problem c.bag-2.new.self lawful c.requires c.in-Some.node Left node)
+    (node_frames problem c.bag-2.new.self lawful c.requires c.in-Some.node Right node) in
     rw c.in_ok-append.ensures.items
-    (looked_at problem c.bag-2.new.self lawful c.requires c.pop.new.self.items c.in-Some.node c.in_ok-children.children.items pending (subst (SideAnswer c.bag-2.new.self c.in-Some.node problem.signature problem.theory) c.in_default-2.is answer) c.in_ok-children.ensures)
+    (looked_at problem c.bag-2.new.self lawful c.requires c.pop.new.self.items c.in-Some.node c.in_ok-children.children.items pending
+    (subst (SideAnswer c.bag-2.new.self c.in-Some.node problem.signature problem.theory) c.in_default-2.is answer) c.in_ok-children.ensures)
 
 pub loop-node-smaller : goal.loop-node-smaller
 loop-node-smaller c =
@@ -72,4 +77,5 @@ loop-node-smaller c =
 pub returns : goal.returns
 returns c =
     let none : length c.loop-node.pending.items ≡ 0 = omega (arith, c.in_default.ensures.cases, c.loop-node.pending.ok) in
-    none_pending c.args.problem.now c.bag-2.new.self c.side.ensures.lawful c.requires (subst (IsPending c.args.problem.now c.bag-2.new.self) (no_items c.loop-node.pending.items none) c.loop-node.invariant)
+    none_pending c.args.problem.now c.bag-2.new.self c.side.ensures.lawful c.requires
+    (subst (IsPending c.args.problem.now c.bag-2.new.self) (no_items c.loop-node.pending.items none) c.loop-node.invariant)

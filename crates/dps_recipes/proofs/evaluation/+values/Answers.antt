@@ -1,55 +1,72 @@
-use Rattle.std.proofs.Common.{◌≡◌, ap, arith}
-use Rattle.dps_terms.specs.Tree.{node_count, trees}
+use Rattle.std.proofs.Common.{◌≡◌, ◌+◌, ◌-◌, List, arith, rules}
+use Rattle.dps_terms.specs.Tree.{Tree}
 use Rattle.dps_terms.specs.Seen.{seen}
-use Rattle.dps_terms.specs.Views.{arguments}
-use Rattle.dps_terms.specs.Smaller.{argument_is_smaller}
+use Rattle.dps_terms.specs.Walk.{subterms_from}
 use Rattle.dps_theory.specs.Evaluation.{no_terms}
-use Rattle.dps_recipes.proofs.Valuing.{ax_root, message_le, no_frame, symbol_answer, symbol_fails, handle_answer, values_next, no_values, name_copied}
+use Rattle.dps_recipes.proofs.Valuing.{ax_root, no_frame, handle_answer}
+use Rattle.dps_recipes.proofs.NodeByNode.{arguments_there, value_put, none_put, one_value, subterm_fails, message_there, applied_put, leaf_put, name_put}
 use Rattle.dps_recipes.proofs.evaluation.+values.Goals as goal
 
-pub value_in-value_in-requires : goal.value_in-value_in-requires
-value_in-value_in-requires t c =
-    let h = message_le c.args.frame.now c.in-Ax.number c.in-Some-message.message.now (λ other. c.in-Some-message.ensures other) in
-    let one : node_count (seen c.args.recipe) ≡ 1 = ap node_count (ax_root (seen c.args.recipe) c.in-Ax.number c.in-Ax.ensures) in
-    (omega (arith, h, one, ap node_count c.whole.ensures, c.decreases), tt)
+pub put_value-value_in-requires : goal.put_value-value_in-requires
+put_value-value_in-requires t c =
+    let some = message_there c.args.frame.now c.in-Ax.number c.in-Some.message.now (λ other. c.in-Some.ensures other) in
+    (omega (arith, some, c.decreases), tt)
 
-pub value_in-returns-in_ok-found-in-Some : goal.value_in-returns-in_ok-found-in-Some
-value_in-returns-in_ok-found-in-Some t c =
-    symbol_answer c.args.theory.now c.args.frame.now c.in_ok-found-in-Some.ensures.accepted c.in-App.sym (seen c.args.recipe) (trees c.in-Some.values.items) c.in_ok-found-in-Some.found c.in-App.ensures
-    (rw c.in-Some.is at c.in_ok-values-in-App.ensures.values) c.in_ok-found-in-Some.ensures.given
+pub put_value-returns-in_ok-found-in-App : goal.put_value-returns-in_ok-found-in-App
+put_value-returns-in_ok-found-in-App t c =
+    applied_put c.args.theory.now c.args.frame.now (seen c.args.recipe) c.in-App.sym c.arity.result c.args.values.now c.put_applied.new.values c.in_ok-found-in-App.found
+    c.in_ok-found-in-App.ensures.accepted c.in-App.ensures c.arity.ensures.number c.in_ok-found-in-App.ensures.given
 
-pub value_in-returns-in-None : goal.value_in-returns-in-None
-value_in-returns-in-None t c =
-    symbol_fails c.args.theory.now c.args.frame.now c.in-App.sym (seen c.args.recipe) c.in-App.ensures (rw c.in-None.is at c.in_ok-values-in-App.ensures.values)
+pub put_value-returns-in_ok-push-in-Some-2 : goal.put_value-returns-in_ok-push-in-Some-2
+put_value-returns-in_ok-push-in-Some-2 t c =
+    let root = ax_root (seen c.args.recipe) c.in-Ax.number c.in-Ax.ensures in
+    let has =
+    handle_answer c.args.theory.now c.args.frame.now (seen c.args.recipe) c.in-Ax.number c.in-Some.message.now c.in_ok-value-in-Some.field-0 root (λ other. c.in-Some.ensures other)
+    (no_frame c.args.theory.now c.in-Some.message.now c.in_ok-value-in-Some.field-0 (rw c.whole.ensures at c.in_ok-value-in-Some.ensures)) in
+    leaf_put c.args.theory.now c.args.frame.now (seen c.args.recipe) _ c.args.values.now c.push.new.self c.in-Some-2.value root (search rules) (rw c.in-Some-2.is at has)
 
-pub value_in-returns-in_ok-found-in-Some-message : goal.value_in-returns-in_ok-found-in-Some-message
-value_in-returns-in_ok-found-in-Some-message t c =
-    handle_answer c.args.theory.now c.args.frame.now (seen c.args.recipe) c.in-Ax.number c.in-Some-message.message.now c.in_ok-found-in-Some-message.found
-    (ax_root (seen c.args.recipe) c.in-Ax.number c.in-Ax.ensures) (λ other. c.in-Some-message.ensures other)
-    (no_frame c.args.theory.now c.in-Some-message.message.now c.in_ok-found-in-Some-message.found (rw c.whole.ensures at c.in_ok-found-in-Some-message.ensures))
+pub put_value-returns-in-None-2 : goal.put_value-returns-in-None-2
+put_value-returns-in-None-2 t c =
+    let has =
+    handle_answer c.args.theory.now c.args.frame.now (seen c.args.recipe) c.in-Ax.number c.in-Some.message.now c.in_ok-value-in-Some.field-0
+    (ax_root (seen c.args.recipe) c.in-Ax.number c.in-Ax.ensures) (λ other. c.in-Some.ensures other)
+    (no_frame c.args.theory.now c.in-Some.message.now c.in_ok-value-in-Some.field-0 (rw c.whole.ensures at c.in_ok-value-in-Some.ensures)) in
+    λ h. rw c.in-None-2.is at has
 
-pub values_in-loop-index-init : goal.values_in-loop-index-init
-values_in-loop-index-init t c = record { counted = c.in_ok-values.ensures.len; so_far = rw c.in_ok-values.ensures.items no_terms }
+pub put_value-returns-in_ok-push-in-Public : goal.put_value-returns-in_ok-push-in-Public
+put_value-returns-in_ok-push-in-Public t c =
+    name_put c.args.theory.now c.args.frame.now (seen c.args.recipe) c.view.result c.args.values.now c.push-in-Public.new.self c.view.ensures c.in-Public.is c.in_ok-push-in-Public.ensures.ok
 
-pub values_in-value_in-requires : goal.values_in-value_in-requires
-values_in-value_in-requires t c =
-    let h = argument_is_smaller (seen c.args.recipe) c.loop-index.index (seen c.argument.result) c.argument.ensures in
-    (omega (arith, h, c.decreases), tt)
+pub value_in-loop-left-init : goal.value_in-loop-left-init
+value_in-loop-left-init t c = record { within = omega (arith, c.node_count-left.ensures.count); have = rw (c.node_count-left.ensures.end, c.empty-values.ensures) no_terms }
 
-pub values_in-returns-in-None-clause-values : goal.values_in-returns-in-None-clause-values
-values_in-returns-in-None-clause-values t c =
-    no_values c.args.theory.now c.args.frame.now (arguments (seen c.args.recipe)) c.loop-index.index (seen c.argument.result) c.argument.ensures
-    (rw c.in-None.is at c.in_ok-value.ensures)
+pub value_in-put_value-requires : goal.value_in-put_value-requires
+value_in-put_value-requires t c =
+    let back : c.loop-left.left - 1 + 1 ≡ c.loop-left.left = omega arith in
+    let behind : List Tree = subterms_from (seen c.args.recipe) c.loop-left.left in (
+      omega (arith, c.decreases),
+      arguments_there c.args.theory.now c.args.frame.now (seen c.subterm.result) behind c.loop-left.values (rw back at c.subterm.ensures.below) c.loop-left.invariant.have,
+    )
 
-pub values_in-loop-index-preserved : goal.values_in-loop-index-preserved
-values_in-loop-index-preserved t c = record {
-  counted = omega (arith, c.in_ok-push-in-Some.ensures.len, c.loop-index.invariant.counted);
-  so_far =
-      values_next c.args.theory.now c.args.frame.now (arguments (seen c.args.recipe)) c.loop-index.values.items c.push.new.self.items c.loop-index.index (seen c.argument.result) c.in-Some.value c.argument.ensures c.in_ok-push-in-Some.ensures.items
-      (rw c.in-Some.is at c.in_ok-value.ensures) c.loop-index.invariant.so_far;
-}
+pub value_in-returns-then-not-branch : goal.value_in-returns-then-not-branch
+value_in-returns-then-not-branch t c =
+    let back : c.loop-left.left - 1 + 1 ≡ c.loop-left.left = omega arith in
+    let behind : List Tree = subterms_from (seen c.args.recipe) c.loop-left.left in
+    subterm_fails c.args.theory.now c.args.frame.now (seen c.args.recipe) (seen c.subterm.result) (c.loop-left.left - 1) _ c.subterm.ensures.first
+    (none_put c.args.theory.now c.args.frame.now (seen c.subterm.result) behind c.loop-left.values (rw back at c.subterm.ensures.below) c.loop-left.invariant.have
+    (search rules))
 
-pub value_in-returns-in_ok-name-in-Public : goal.value_in-returns-in_ok-name-in-Public
-value_in-returns-in_ok-name-in-Public t c =
-    name_copied c.args.theory.now c.args.frame.now (seen c.args.recipe) c.in_ok-name-in-Public.name c.view.result c.in_ok-name-in-Public.ensures c.view.ensures
-    c.in-Public.is
+pub value_in-loop-left-preserved : goal.value_in-loop-left-preserved
+value_in-loop-left-preserved t c =
+    let back : c.loop-left.left - 1 + 1 ≡ c.loop-left.left = omega arith in
+    let behind : List Tree = subterms_from (seen c.args.recipe) c.loop-left.left in
+    record {
+      within = omega (arith, c.loop-left.invariant.within);
+      have = value_put c.args.theory.now c.args.frame.now (seen c.subterm.result) behind c.loop-left.values (rw back at c.subterm.ensures.below) c.loop-left.invariant.have
+          (subterms_from (seen c.args.recipe) (c.loop-left.left - 1)) c.put_value.new.values (rw back at c.subterm.ensures.first) (search rules);
+    }
+
+pub value_in-into_term-requires : goal.value_in-into_term-requires
+value_in-into_term-requires t c =
+    let none_left : c.loop-left.left ≡ 0 = omega arith in
+    one_value c.args.theory.now c.args.frame.now (seen c.args.recipe) c.loop-left.values (rw none_left at c.loop-left.invariant.have)

@@ -25,12 +25,14 @@ returns-then-not-builds t c = (
   λ e. absurd (true≢false (sym e)),
   λ e.
       sym c.if-not-builds.true
-      ∙ c.builds.ensures.1 (argument_built c.args.kept.now (seen c.args.way) (seen c.args.tree) c.in-App.sym c.loop-i.i (seen c.argument.result) (seen c.argument-in-loop-i.result) c.in-App.ensures e c.argument.ensures c.argument-in-loop-i.ensures),
+      ∙ c.builds.ensures.1 (argument_built c.args.kept.now (seen c.args.way) (seen c.args.tree) c.in-App.sym c.loop-i.i (seen c.argument.result) (seen c.argument-in-loop-i.result)
+      c.in-App.ensures e c.argument.ensures c.argument-in-loop-i.ensures),
 )
 
 pub loop-i-preserved : goal.loop-i-preserved
 loop-i-preserved t c =
-    alike_further (put_entries c.args.kept.now) (arguments (seen c.args.way)) (arguments (seen c.args.tree)) c.loop-i.i (seen c.argument.result) (seen c.argument-in-loop-i.result) c.loop-i.invariant c.argument.ensures c.argument-in-loop-i.ensures
+    alike_further (put_entries c.args.kept.now) (arguments (seen c.args.way)) (arguments (seen c.args.tree)) c.loop-i.i (seen c.argument.result) (seen c.argument-in-loop-i.result)
+    c.loop-i.invariant c.argument.ensures c.argument-in-loop-i.ensures
     (c.builds.ensures.0 c.if-not-builds.false)
 
 pub returns-after-loop-i : goal.returns-after-loop-i

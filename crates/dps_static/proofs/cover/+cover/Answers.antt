@@ -35,13 +35,20 @@ pub cover_arguments-cover-requires : goal.cover_arguments-cover-requires
 cover_arguments-cover-requires t c =
     let h = argument_is_smaller (seen c.args.pattern) c.loop-index.index (seen c.argument.result) c.argument.ensures in (
       omega (arith, h, c.decreases),
-      (c.requires.within, ((λ n k. c.requires.free n (stands_in_argument (var n) (seen c.args.pattern) c.loop-index.index (seen c.argument.result) c.argument.ensures k)), c.loop-index.invariant.parts)),
+      (
+        c.requires.within,
+        (
+          (λ n k. c.requires.free n (stands_in_argument (var n) (seen c.args.pattern) c.loop-index.index (seen c.argument.result) c.argument.ensures k)),
+          c.loop-index.invariant.parts,
+        ),
+      ),
     )
 
 pub cover_arguments-loop-index-preserved : goal.cover_arguments-loop-index-preserved
 cover_arguments-loop-index-preserved t c = record {
   covers =
-      covers_next c.args.kept.now c.args.to (arguments (seen c.args.pattern)) c.args.first c.loop-index.index (seen c.argument.result) c.args.start.items c.loop-index.found.items c.in_ok-found.found.items (omega (arith, c.loop-index.auto.index)) c.argument.ensures
+      covers_next c.args.kept.now c.args.to (arguments (seen c.args.pattern)) c.args.first c.loop-index.index (seen c.argument.result) c.args.start.items c.loop-index.found.items
+      c.in_ok-found.found.items (omega (arith, c.loop-index.auto.index)) c.argument.ensures
       c.loop-index.invariant.covers c.in_ok-found.ensures.covers;
   parts = c.in_ok-found.ensures.parts;
 }

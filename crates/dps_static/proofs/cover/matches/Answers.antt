@@ -32,7 +32,7 @@ loop-by-preserved c =
     let member : Contains start by = subst (Contains start) (sym c.by-item.is) (Contains-get_or start c.loop-by.by-index by c.loop-by-test.true) in
     elim c.if-branch.branch [
       | then-branch+in_ok-push w ↦
-          (let m : Matched free c.in_ok-more.more p t q = rw w.if-branch.true at c.in_ok-extend_match.ensures in
+          (let m : Matched free c.in_ok-more.more p t q = rw w.if-branch.true at c.in_ok-extend_match.ensures.found in
           let n : Matched free by p t q = subst (λ s. Matched free s p t q) c.in_ok-more.ensures m in
           let it : c.if-branch.found.items ≡ old ++ q ∷ [] = rw w.found-is w.in_ok-push.ensures.items in
           rw it (record {
@@ -46,7 +46,7 @@ loop-by-preserved c =
                 ];
           }))
       | else-branch w ↦
-          (let m : Refused free c.in_ok-more.more p t = rw w.if-branch.false at c.in_ok-extend_match.ensures in
+          (let m : Refused free c.in_ok-more.more p t = rw w.if-branch.false at c.in_ok-extend_match.ensures.found in
           let n : Refused free by p t = subst (λ s. Refused free s p t) c.in_ok-more.ensures m in
           rw w.found-is (record {
             all = below_more _ _ c.loop-by.invariant.all (λ s e. inl (subst (λ x. Refused free x p t) (at s e) n));

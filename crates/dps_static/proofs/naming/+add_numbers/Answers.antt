@@ -12,7 +12,8 @@ add_numbers-requires t c =
 
 pub loop-index-preserved : goal.loop-index-preserved
 loop-index-preserved t c =
-    adds_next c.args.numbers.now c.loop-index.numbers c.add_numbers.new.numbers (arguments (seen c.args.tree)) c.loop-index.index (seen c.argument.result) c.argument.ensures c.loop-index.invariant c.in_ok-add_numbers-in-App.ensures
+    adds_next c.args.numbers.now c.loop-index.numbers c.add_numbers.new.numbers (arguments (seen c.args.tree)) c.loop-index.index (seen c.argument.result) c.argument.ensures
+    c.loop-index.invariant c.in_ok-add_numbers-in-App.ensures
 
 pub returns-after-loop-index : goal.returns-after-loop-index
 returns-after-loop-index t c =

@@ -15,7 +15,18 @@ with_new-returns-in_ok-append-in-App t c =
     let kept = c.args.kept.now in
     let p = seen c.args.pattern in
     rw c.in_ok-append-in-App.ensures.items (record {
-      covers = new_root kept c.args.asked p c.args.start.now c.in_ok-found-in-App.found.items c.in_ok-below-in-App.below.items c.in-App.field-0 c.in-App.ensures c.in_ok-found-in-App.ensures.covers c.in_ok-below-in-App.ensures.covers;
+      covers =
+          new_root
+          kept
+          c.args.asked
+          p
+          c.args.start.now
+          c.in_ok-found-in-App.found.items
+          c.in_ok-below-in-App.below.items
+          c.in-App.field-0
+          c.in-App.ensures
+          c.in_ok-found-in-App.ensures.covers
+          c.in_ok-below-in-App.ensures.covers;
       parts = All-append (BindsParts kept c.args.free.now) c.in_ok-found-in-App.found.items c.in_ok-below-in-App.below.items c.in_ok-found-in-App.ensures.parts c.in_ok-below-in-App.ensures.parts;
     })
 
@@ -40,7 +51,21 @@ with_new_below-loop-pivot-preserved t c =
     let kept = c.args.kept.now in
     let ps = arguments (seen c.args.pattern) in
     rw c.in_ok-append.ensures.items (record {
-      covers = pivots_next kept c.args.asked ps c.loop-pivot.pivot (seen c.argument.result) c.argument.ensures c.args.start.now c.loop-pivot.found.items c.in_ok-by_pivot.by_pivot.items c.in_ok-whole.whole.items c.loop-pivot.invariant.covers c.in_ok-by_pivot.ensures.covers c.in_ok-whole.ensures.covers;
+      covers =
+          pivots_next
+          kept
+          c.args.asked
+          ps
+          c.loop-pivot.pivot
+          (seen c.argument.result)
+          c.argument.ensures
+          c.args.start.now
+          c.loop-pivot.found.items
+          c.in_ok-by_pivot.by_pivot.items
+          c.in_ok-whole.whole.items
+          c.loop-pivot.invariant.covers
+          c.in_ok-by_pivot.ensures.covers
+          c.in_ok-whole.ensures.covers;
       parts = All-append (BindsParts kept c.args.free.now) c.loop-pivot.found.items c.in_ok-whole.whole.items c.loop-pivot.invariant.parts c.in_ok-whole.ensures.parts;
     })
 

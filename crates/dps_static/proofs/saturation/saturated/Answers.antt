@@ -3,7 +3,8 @@ use Rattle.std.specs.Prelude.{Contains}
 use Rattle.dps_static.specs.Ending.{Grows}
 use Rattle.dps_static.specs.Uses.{AreUsesOf}
 use Rattle.dps_static.specs.Asking.{UsesGrow, AreUsedUp}
-use Rattle.dps_static.proofs.Growing.{known_first, asked_nothing, no_uses, uses_end, saturated_end}
+use Rattle.dps_static.proofs.NewKnowledge.{known_first}
+use Rattle.dps_static.proofs.AskingAllRules.{asked_nothing, no_uses, uses_end, saturated_end}
 use Rattle.dps_static.proofs.saturation.saturated.Goals as goal
 
 pub loop-asked-init : goal.loop-asked-init
@@ -40,6 +41,20 @@ returns c =
     let are : AreUsesOf theory now.kept now.uses.items =
     uses_end theory frame before.recipes.items before.kept before.uses.items now.recipes.items now.kept now.uses.items c.in_ok-use_rules.ensures.uses c.loop-asked.invariant.each up in
     record {
-      saturation = saturated_end theory frame before.recipes.items before.kept before.uses.items now.recipes.items now.kept now.uses.items c.in_ok-use_rules.ensures.accepted c.in_ok-use_rules.ensures.plain c.loop-asked.invariant.known up are;
+      saturation =
+          saturated_end
+          theory
+          frame
+          before.recipes.items
+          before.kept
+          before.uses.items
+          now.recipes.items
+          now.kept
+          now.uses.items
+          c.in_ok-use_rules.ensures.accepted
+          c.in_ok-use_rules.ensures.plain
+          c.loop-asked.invariant.known
+          up
+          are;
       uses = are;
     }

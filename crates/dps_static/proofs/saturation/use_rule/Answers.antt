@@ -13,7 +13,8 @@ use Rattle.dps_static.specs.Cuts.{CoversNewLeft}
 use Rattle.dps_static.specs.Uses.{IsUse}
 use Rattle.dps_static.specs.Replies.{IsNewTree}
 use Rattle.dps_static.specs.Asking.{IsAsked}
-use Rattle.dps_static.proofs.Growing.{IsAsking, asking_first, asking_waits, asking_uses, asking_gives, asked_now, used_up}
+use Rattle.dps_static.proofs.AskingARule.{IsAsking}
+use Rattle.dps_static.proofs.AskingARule.{asking_first, asking_waits, asking_uses, asking_gives, asked_now, used_up}
 use Rattle.dps_static.proofs.saturation.use_rule.Goals as goal
 
 pub new_ways-requires : goal.new_ways-requires
@@ -40,7 +41,8 @@ loop-by-init c =
     let parts : All (BindsParts kept (variables rule.left)) new =
     subst (λ (t : Tree). All (BindsParts kept (variables t)) new) left_is (subst (λ ts. All (BindsParts ts (variables c.rule.inside.left)) new) c.trees.ensures c.in_ok-ways.ensures.parts) in
     rw (c.in_ok-append.ensures.items, c.in_ok-append.ensures.other_items)
-    (asking_first c.args.theory.now rule (length c.trees-2.result.now) c.args.knowledge.now.recipes.items kept c.args.knowledge.now.uses.items asked new (ap length c.trees-2.ensures) (c.requires.asked rule there) covers parts)
+    (asking_first c.args.theory.now rule (length c.trees-2.result.now) c.args.knowledge.now.recipes.items kept c.args.knowledge.now.uses.items asked new (ap length c.trees-2.ensures)
+    (c.requires.asked rule there) covers parts)
 
 -- the way waits
 pub loop-by-preserved-in-Continue-branch-5 : goal.loop-by-preserved-in-Continue-branch-5
@@ -52,7 +54,8 @@ loop-by-preserved-in-Continue-branch-5 c =
     let asked = c.loop-by.asked in
     let rest = c.pop.new.self.items in
     let asking : IsAsking theory rule asked.trees c.loop-by.more old.recipes.items old.kept old.uses.items now.recipes.items now.kept now.uses.items (rest ++ c.in-Some.by ∷ []) asked.waiting.items =
-    subst (λ ws. IsAsking theory rule asked.trees c.loop-by.more old.recipes.items old.kept old.uses.items now.recipes.items now.kept now.uses.items ws asked.waiting.items) c.in-Some.ensures.items c.loop-by.invariant in
+    subst (λ ws. IsAsking theory rule asked.trees c.loop-by.more old.recipes.items old.kept old.uses.items now.recipes.items now.kept now.uses.items ws asked.waiting.items)
+    c.in-Some.ensures.items c.loop-by.invariant in
     let nothing : IsNotComposed now.kept (substitute (generic c.in-Some.by) rule.left) = rw c.in-Waits.is at c.in_ok-ask.ensures in
     rw c.in_ok-push-in-Waits.ensures.items
     (asking_waits theory rule asked.trees c.loop-by.more old.recipes.items old.kept old.uses.items now.recipes.items now.kept now.uses.items rest asked.waiting.items c.in-Some.by asking nothing)
@@ -70,10 +73,12 @@ loop-by-preserved-in-Uses-1 c =
     let is : rule ≡ get_or rules c.args.place rule = c.index-rules-place.is ∙ ap (λ xs. get_or xs c.args.place rule) c.rules.ensures.list in
     let listed : HasRule theory rule = subst (Contains rules) (sym is) (Contains-get_or rules c.args.place rule c.requires.place) in
     let asking : IsAsking theory rule asked.trees c.loop-by.more old.recipes.items old.kept old.uses.items now.recipes.items now.kept now.uses.items (rest ++ c.in-Some.by ∷ []) asked.waiting.items =
-    subst (λ ws. IsAsking theory rule asked.trees c.loop-by.more old.recipes.items old.kept old.uses.items now.recipes.items now.kept now.uses.items ws asked.waiting.items) c.in-Some.ensures.items c.loop-by.invariant in
+    subst (λ ws. IsAsking theory rule asked.trees c.loop-by.more old.recipes.items old.kept old.uses.items now.recipes.items now.kept now.uses.items ws asked.waiting.items)
+    c.in-Some.ensures.items c.loop-by.invariant in
     let is_use : IsUse now.kept rule c.in-Some.by c.in-Uses.one = rw c.in-Uses.is at c.in_ok-ask.ensures in
     rw c.in_ok-push-in-Uses.ensures.items
-    (asking_uses theory rule asked.trees c.loop-by.more old.recipes.items old.kept old.uses.items now.recipes.items now.kept now.uses.items rest asked.waiting.items c.in-Some.by asking c.in-Uses.one listed is_use)
+    (asking_uses theory rule asked.trees c.loop-by.more old.recipes.items old.kept old.uses.items now.recipes.items now.kept now.uses.items rest asked.waiting.items c.in-Some.by asking
+    c.in-Uses.one listed is_use)
 
 -- the right side is kept
 pub loop-by-preserved : goal.loop-by-preserved
@@ -88,10 +93,12 @@ loop-by-preserved c =
     let is : rule ≡ get_or rules c.args.place rule = c.index-rules-place.is ∙ ap (λ xs. get_or xs c.args.place rule) c.rules.ensures.list in
     let listed : HasRule theory rule = subst (Contains rules) (sym is) (Contains-get_or rules c.args.place rule c.requires.place) in
     let asking : IsAsking theory rule asked.trees c.loop-by.more old.recipes.items old.kept old.uses.items now.recipes.items now.kept now.uses.items (rest ++ c.in-Some.by ∷ []) asked.waiting.items =
-    subst (λ ws. IsAsking theory rule asked.trees c.loop-by.more old.recipes.items old.kept old.uses.items now.recipes.items now.kept now.uses.items ws asked.waiting.items) c.in-Some.ensures.items c.loop-by.invariant in
+    subst (λ ws. IsAsking theory rule asked.trees c.loop-by.more old.recipes.items old.kept old.uses.items now.recipes.items now.kept now.uses.items ws asked.waiting.items)
+    c.in-Some.ensures.items c.loop-by.invariant in
     let made : IsNewTree rule now.recipes.items now.kept c.in-Some.by c.in-Gives.new = rw c.deref.ensures.value at (rw c.in-Gives.is at c.in_ok-ask.ensures) in
     rw (c.in_ok-keep-in-Gives.ensures.recipes, c.in_ok-keep-in-Gives.ensures.kept, c.in_ok-keep-in-Gives.ensures.uses)
-    (asking_gives theory rule asked.trees c.loop-by.more old.recipes.items old.kept old.uses.items now.recipes.items now.kept now.uses.items rest asked.waiting.items c.in-Some.by asking c.rules.ensures.accepted c.rules.ensures.plain listed c.in-Gives.new made)
+    (asking_gives theory rule asked.trees c.loop-by.more old.recipes.items old.kept old.uses.items now.recipes.items now.kept now.uses.items rest asked.waiting.items c.in-Some.by asking
+    c.rules.ensures.accepted c.rules.ensures.plain listed c.in-Gives.new made)
 
 pub returns : goal.returns
 returns c =
@@ -112,5 +119,22 @@ returns c =
           subst (λ (x : Rule). IsAsked now.kept now.uses.items x asked) equal
           (asked_now theory rule asked.trees c.loop-by.more old.recipes.items old.kept old.uses.items now.recipes.items now.kept now.uses.items ways asked refl c.loop-by.invariant none);
       uses = c.loop-by.invariant.uses;
-      more = used_up theory rule asked.trees c.loop-by.more old.recipes.items old.kept old.uses.items now.recipes.items now.kept now.uses.items ways asked.waiting.items c.args.place there c.loop-by.invariant none;
+      more =
+          used_up
+          theory
+          rule
+          asked.trees
+          c.loop-by.more
+          old.recipes.items
+          old.kept
+          old.uses.items
+          now.recipes.items
+          now.kept
+          now.uses.items
+          ways
+          asked.waiting.items
+          c.args.place
+          there
+          c.loop-by.invariant
+          none;
     }

@@ -3,7 +3,7 @@ use Rattle.std.proofs.lemmas.Option.{slice_get_read}
 use Rattle.dps_theory.specs.Theory.{Rule}
 use Rattle.dps_static.specs.Ending.{Grows}
 use Rattle.dps_static.specs.Asking.{IsUsedUp}
-use Rattle.dps_static.proofs.Growing.{asking_none, asking_more, asking_idle, all_used_up}
+use Rattle.dps_static.proofs.AskingAllRules.{asking_none, asking_more, asking_idle, all_used_up}
 use Rattle.dps_static.proofs.saturation.use_rules.Goals as goal
 use Rattle.dps_static.proofs.saturation.use_rules.Goals.{then-branch, else-branch}
 
@@ -34,11 +34,14 @@ loop-place-preserved c =
       | then-branch w ↦
           (let g : Grows theory 1 before.recipes.items before.kept now.recipes.items now.kept = rw w.if-branch.true at c.in_ok-use_rule.ensures.more in
           rw w.more-is
-          (asking_more theory place c.loop-place.more old.recipes.items old.kept old.uses.items before.recipes.items before.kept before.uses.items c.loop-place.asked.items c.loop-place.invariant now.recipes.items now.kept now.uses.items c.use_rule.new.asked c.in_ok-use_rule.ensures.uses c.in_ok-use_rule.ensures.asked g))
+          (asking_more theory place c.loop-place.more old.recipes.items old.kept old.uses.items before.recipes.items before.kept before.uses.items c.loop-place.asked.items c.loop-place.invariant
+          now.recipes.items now.kept now.uses.items c.use_rule.new.asked c.in_ok-use_rule.ensures.uses c.in_ok-use_rule.ensures.asked g))
       | else-branch w ↦
-          (let used : (rule : Rule) → slice_get theory.rules place ≡ Some rule → IsUsedUp rule before.recipes.items before.kept now.recipes.items now.kept now.uses.items = rw w.if-branch.false at c.in_ok-use_rule.ensures.more in
+          (let used : (rule : Rule) → slice_get theory.rules place ≡ Some rule → IsUsedUp rule before.recipes.items before.kept now.recipes.items now.kept now.uses.items = rw w.if-branch.false
+          at c.in_ok-use_rule.ensures.more in
           rw w.more-is
-          (asking_idle theory place c.loop-place.more old.recipes.items old.kept old.uses.items before.recipes.items before.kept before.uses.items c.loop-place.asked.items c.loop-place.invariant now.recipes.items now.kept now.uses.items c.use_rule.new.asked c.in_ok-use_rule.ensures.uses c.in_ok-use_rule.ensures.asked l used))
+          (asking_idle theory place c.loop-place.more old.recipes.items old.kept old.uses.items before.recipes.items before.kept before.uses.items c.loop-place.asked.items c.loop-place.invariant
+          now.recipes.items now.kept now.uses.items c.use_rule.new.asked c.in_ok-use_rule.ensures.uses c.in_ok-use_rule.ensures.asked l used))
     ]
 
 pub returns : goal.returns
@@ -51,5 +54,18 @@ returns c =
       plain = c.rules-place-end.ensures.plain;
       asked = c.loop-place.invariant.are_asked;
       uses = c.loop-place.invariant.uses;
-      more = all_used_up c.args.theory.now c.loop-place.place c.loop-place.more old.recipes.items old.kept old.uses.items now.recipes.items now.kept now.uses.items c.loop-place.asked.items l c.loop-place.invariant;
+      more =
+          all_used_up
+          c.args.theory.now
+          c.loop-place.place
+          c.loop-place.more
+          old.recipes.items
+          old.kept
+          old.uses.items
+          now.recipes.items
+          now.kept
+          now.uses.items
+          c.loop-place.asked.items
+          l
+          c.loop-place.invariant;
     }

@@ -1,4 +1,4 @@
-use Rattle.dps_static.proofs.Growing.{AreAsking}
+use Rattle.dps_static.proofs.AskingAllRules.{AreAsking}
 use Rattle.dps_static.proofs.saturation.use_rules.Given as goal
 
 abbrev pub invariant-loop-place : goal.invariant-loop-place

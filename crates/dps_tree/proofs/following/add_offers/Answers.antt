@@ -12,4 +12,5 @@ loop-number-preserved c =
 
 pub returns : goal.returns
 returns c =
-    taken_all (λ (ns : List ℕ). AddsOffers (BagOffers c.args.table.now ns) c.args.channels.now.keys c.loop-number.channels.keys) c.args.bag.now c.loop-number.number-index c.loop-number-test.false c.loop-number.invariant
+    taken_all (λ (ns : List ℕ). AddsOffers (BagOffers c.args.table.now ns) c.args.channels.now.keys c.loop-number.channels.keys) c.args.bag.now c.loop-number.number-index
+    c.loop-number-test.false c.loop-number.invariant

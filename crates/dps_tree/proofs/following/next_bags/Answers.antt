@@ -10,6 +10,7 @@ loop-bag-preserved c =
     let bags = c.list-bag-items.result.now in
     let first = take c.loop-bag.bag-index bags in
     let one = rw c.deref.ensures.value at c.in_ok-add_next.ensures in
-    taken_more (λ (vs : List (Vec ℕ Global)). IsJust (OneGoesOn table (map (λ bag. bag.items) vs) c.args.channel) c.add_next.new.next) bags c.loop-bag.bag-index c.bag-item.result c.bag-item.is c.loop-bag-test.true
+    taken_more (λ (vs : List (Vec ℕ Global)). IsJust (OneGoesOn table (map (λ bag. bag.items) vs) c.args.channel) c.add_next.new.next) bags c.loop-bag.bag-index c.bag-item.result c.bag-item.is
+    c.loop-bag-test.true
     (subst (λ (ns : List (List ℕ)). IsJust (OneGoesOn table ns c.args.channel) c.add_next.new.next) (sym (mapped_pushed (λ bag. bag.items) first c.bag-item.result))
     (one_more table c.args.channel (map (λ bag. bag.items) first) c.bag-item.result.items _ _ c.loop-bag.invariant one))

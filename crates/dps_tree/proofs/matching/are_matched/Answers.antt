@@ -38,10 +38,13 @@ returns-then-not-branch c =
 pub loop-group-preserved : goal.loop-group-preserved
 loop-group-preserved c =
     let others = HoldsFrame c.args.table.now c.args.others.now in
-    taken_more (λ (gs : List Group). AreMatchAnswer c.args.theory.now (HoldsFrame c.args.table.now gs) others true) c.args.groups.now c.loop-group.group-index c.group-item.result c.group-item.is c.loop-group-test.true
-    (more_to_match c.args.theory.now c.args.table.now others (take c.loop-group.group-index c.args.groups.now) c.group-item.result c.loop-group.invariant (rw c.if-not-branch.false at c.in_ok-is_matched.ensures))
+    taken_more (λ (gs : List Group). AreMatchAnswer c.args.theory.now (HoldsFrame c.args.table.now gs) others true) c.args.groups.now c.loop-group.group-index c.group-item.result c.group-item.is
+    c.loop-group-test.true
+    (more_to_match c.args.theory.now c.args.table.now others (take c.loop-group.group-index c.args.groups.now) c.group-item.result c.loop-group.invariant
+    (rw c.if-not-branch.false at c.in_ok-is_matched.ensures))
 
 pub returns : goal.returns
 returns c =
     let others = HoldsFrame c.args.table.now c.args.others.now in
-    taken_all (λ (gs : List Group). AreMatchAnswer c.args.theory.now (HoldsFrame c.args.table.now gs) others true) c.args.groups.now c.loop-group.group-index c.loop-group-test.false c.loop-group.invariant
+    taken_all (λ (gs : List Group). AreMatchAnswer c.args.theory.now (HoldsFrame c.args.table.now gs) others true) c.args.groups.now c.loop-group.group-index c.loop-group-test.false
+    c.loop-group.invariant

@@ -12,7 +12,8 @@ loop-other-init c = unmatched_by_none c.args.theory.now c.args.frame.now
 pub loop-other-preserved : goal.loop-other-preserved
 loop-other-preserved c =
     let alike = rw c.if-branch.false at c.in_ok-are_alike.ensures in
-    taken_more (λ (fs : List (List Tree)). IsMatchAnswer c.args.theory.now c.args.frame.now (Contains fs) false) c.args.others.now c.loop-other.other-index c.other-item.result c.other-item.is c.loop-other-test.true
+    taken_more (λ (fs : List (List Tree)). IsMatchAnswer c.args.theory.now c.args.frame.now (Contains fs) false) c.args.others.now c.loop-other.other-index c.other-item.result c.other-item.is
+    c.loop-other-test.true
     (unmatched_by_more c.args.theory.now c.args.frame.now (take c.loop-other.other-index c.args.others.now) c.other-item.result c.loop-other.invariant alike)
 
 pub returns-then-branch : goal.returns-then-branch
@@ -23,4 +24,5 @@ returns-then-branch c =
 
 pub returns : goal.returns
 returns c =
-    taken_all (λ (fs : List (List Tree)). IsMatchAnswer c.args.theory.now c.args.frame.now (Contains fs) false) c.args.others.now c.loop-other.other-index c.loop-other-test.false c.loop-other.invariant
+    taken_all (λ (fs : List (List Tree)). IsMatchAnswer c.args.theory.now c.args.frame.now (Contains fs) false) c.args.others.now c.loop-other.other-index c.loop-other-test.false
+    c.loop-other.invariant

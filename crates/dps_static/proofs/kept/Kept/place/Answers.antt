@@ -1,7 +1,7 @@
 use Rattle.std.proofs.Common.{◌≡◌, nat_eq, Some, None, sym}
 use Rattle.std.specs.Map.{lookup}
 use Rattle.dps_terms.specs.Seen.{seen}
-use Rattle.dps_static.specs.Digest.{digest}
+use Rattle.dps_terms.specs.Digest.{digest}
 use Rattle.dps_static.proofs.Placing.{nothing_before, never_kept}
 use Rattle.dps_static.proofs.kept.Kept.place.Goals as goal
 

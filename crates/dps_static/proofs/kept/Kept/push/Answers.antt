@@ -1,5 +1,5 @@
 use Rattle.std.proofs.Common.{◌≡◌, length, arith, sym, ap, ◌∙◌, subst}
-use Rattle.dps_static.specs.Digest.{digest}
+use Rattle.dps_terms.specs.Digest.{digest}
 use Rattle.dps_static.specs.Places.{ArePlacesOf, IsPlaced}
 use Rattle.dps_static.proofs.Placing.{places_stay, places_push}
 use Rattle.dps_static.proofs.kept.Kept.push.Goals as goal
@@ -10,7 +10,8 @@ invariant_of-self-in_err-push c =
     let places = c.self.inside.places.entries in
     let later = c.put_place.new.places.entries in
     let placed : IsPlaced places (digest c.args.tree) (length kept) later =
-    subst (λ d. IsPlaced places d (length kept) later) (c.digest.ensures ∙ ap digest c.whole.ensures) (subst (λ l. IsPlaced places c.digest.result l later) (let e : c.len.result ≡ length kept = omega (arith, c.len.ensures, c.self.inside.trees.ok.0) in e) c.in_ok-put_place.ensures.ok) in
+    subst (λ d. IsPlaced places d (length kept) later) (c.digest.ensures ∙ ap digest c.whole.ensures)
+    (subst (λ l. IsPlaced places c.digest.result l later) (let e : c.len.result ≡ length kept = omega (arith, c.len.ensures, c.self.inside.trees.ok.0) in e) c.in_ok-put_place.ensures.ok) in
     subst (λ ts. ArePlacesOf ts later) (sym c.in_err-push.ensures.items) (places_stay kept places later (digest c.args.tree) c.self.invariant placed)
 
 pub invariant_of-self-2 : goal.invariant_of-self-2
@@ -19,5 +20,6 @@ invariant_of-self-2 c =
     let places = c.self.inside.places.entries in
     let later = c.put_place.new.places.entries in
     let placed : IsPlaced places (digest c.args.tree) (length kept) later =
-    subst (λ d. IsPlaced places d (length kept) later) (c.digest.ensures ∙ ap digest c.whole.ensures) (subst (λ l. IsPlaced places c.digest.result l later) (let e : c.len.result ≡ length kept = omega (arith, c.len.ensures, c.self.inside.trees.ok.0) in e) c.in_ok-put_place.ensures.ok) in
+    subst (λ d. IsPlaced places d (length kept) later) (c.digest.ensures ∙ ap digest c.whole.ensures)
+    (subst (λ l. IsPlaced places c.digest.result l later) (let e : c.len.result ≡ length kept = omega (arith, c.len.ensures, c.self.inside.trees.ok.0) in e) c.in_ok-put_place.ensures.ok) in
     subst (λ ts. ArePlacesOf ts later) (sym c.in_ok-push.ensures.items) (places_push kept places later c.args.tree c.self.invariant placed)

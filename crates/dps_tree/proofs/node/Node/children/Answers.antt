@@ -9,7 +9,8 @@ loop-channel-init c = rw c.new-children.ensures.items (none_above c.args.table.n
 pub loop-channel-preserved : goal.loop-channel-preserved
 loop-channel-preserved c =
     rw c.in_ok-push.ensures.items
-    (one_more_above c.args.table.now c.args.self.now c.loop-channel.channels.keys c.pop_last.new.self.keys c.in-Some.channel c.loop-channel.children.items c.in_ok-child.field-0 c.loop-channel.invariant c.in-Some.ensures.removal c.in-Some.ensures.all_below c.in_ok-child.ensures)
+    (one_more_above c.args.table.now c.args.self.now c.loop-channel.channels.keys c.pop_last.new.self.keys c.in-Some.channel c.loop-channel.children.items c.in_ok-child.field-0
+    c.loop-channel.invariant c.in-Some.ensures.removal c.in-Some.ensures.all_below c.in_ok-child.ensures)
 
 pub returns : goal.returns
 returns c =

@@ -1,7 +1,7 @@
 use Rattle.std.proofs.Common.{◌≡◌, ℕ, length, refl, sym, subst, arith}
 use Rattle.dps_tree.specs.Table.{HasMessage}
 use Rattle.dps_tree.specs.declared.table.Table.{Table}
-use Rattle.dps_tree.proofs.Growing.{message_pushed}
+use Rattle.dps_tree.proofs.TableGrowth.{message_pushed}
 use Rattle.dps_tree.proofs.table.Table.message_number.Goals as goal
 
 pub returns : goal.returns

@@ -1,7 +1,7 @@
 use Rattle.std.proofs.Common.{◌≡◌, ℕ, length, refl, sym, subst, arith}
 use Rattle.dps_tree.specs.Table.{HasOutput}
 use Rattle.dps_tree.specs.declared.table.Table.{Table}
-use Rattle.dps_tree.proofs.Growing.{output_found, output_pushed}
+use Rattle.dps_tree.proofs.TableGrowth.{output_found, output_pushed}
 use Rattle.dps_tree.proofs.table.Table.output_number.Goals as goal
 
 pub returns-in-Some : goal.returns-in-Some

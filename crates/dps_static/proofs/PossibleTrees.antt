@@ -6,12 +6,14 @@ use Rattle.std.proofs.lemmas.List.Elements.{All-push}
 use Rattle.dps_terms.specs.declared.Sym.{Sym}
 use Rattle.dps_terms.specs.declared.SymKind.TheVariants.{Constructor, Destructor}
 use Rattle.dps_terms.specs.declared.PublicName.TheVariants.{At}
-use Rattle.dps_terms.specs.Tree.{Leaf, public, private, var, ax, entry, rigid, Tree, Trees, leaf, app, none, more, count, IsSubterm, IsAmong, IsStrictSubterm, itself, below, in_first, in_rest, strictly}
+use Rattle.dps_terms.specs.Tree.{Leaf, public, private, var, ax, entry, rigid, Tree, Trees, leaf, app}
+use Rattle.dps_terms.specs.Tree.{none, more, count, IsSubterm, IsAmong, IsStrictSubterm, itself, below, in_first, in_rest, strictly}
 use Rattle.dps_terms.specs.Replace.{replace, substitute, substitute_all, variables_to, rigid_names_to, entries_to, numbered, put_entries}
 use Rattle.dps_terms.specs.Bindings.{bound}
 use Rattle.dps_terms.specs.Variables.{variables}
 use Rattle.dps_terms.specs.Signature.{Signature, Shape, HasShape, HasArity, shapes}
-use Rattle.dps_terms.specs.Kinds.{IsBuiltOf, AreBuiltOf, AnyLeaf, AnySymbol, IsNoVariable, IsName, IsPlain, IsClosed, IsOver, IsLeafOver, IsRecipe, IsConstructorTerm, AreConstructorTerms, IsKnowledgeLeaf, NoRigidName}
+use Rattle.dps_terms.specs.Kinds.{IsBuiltOf, AreBuiltOf, AnyLeaf, AnySymbol, IsNoVariable, IsName, IsPlain}
+use Rattle.dps_terms.specs.Kinds.{IsClosed, IsOver, IsLeafOver, IsRecipe, IsConstructorTerm, AreConstructorTerms, IsKnowledgeLeaf, NoRigidName}
 use Rattle.dps_terms.proofs.Building.{built_subterm, built_weaker, built_instance, built_instances, closed_stays, count-replace_all, substitution_stays_over, knowledge_becomes_recipes}
 use Rattle.dps_terms.proofs.Replacing.{keeps_among}
 use Rattle.dps_terms.proofs.Subterms.{nested}
@@ -117,7 +119,8 @@ module _ (theory : Theory) (accepted : IsAccepted theory) (plain : HasPlainRules
         let z = variables_to (generic made.by) in
         let below_left : IsAmong (substitute (generic made.by) rule.right) (substitute_all (generic made.by) root.patterns) =
         strict_among (keeps_strict z (subst (IsStrictSubterm rule.right) root.is s)) in
-        let below_way : IsAmong v (put_all kept as_app.arguments) = subst (IsAmong v) (sym as_app.give) (subst (λ u. IsAmong u (substitute_all (generic made.by) root.patterns)) (sym made.value_is) below_left) in
+        let below_way : IsAmong v (put_all kept as_app.arguments) = subst (IsAmong v) (sym as_app.give)
+        (subst (λ u. IsAmong u (substitute_all (generic made.by) root.patterns)) (sym made.value_is) below_left) in
         elim (part_of_ways kept as_app.arguments v as_app.are_ways below_way) [
           | inl b ↦ absurd (made.is_new b)
           | inr p ↦ part_possible possible p
@@ -213,7 +216,8 @@ module _ (known : List Shape) (kept : List Tree) where
     ways_constructed (more w ws) h = (way_constructed w h.0, ways_constructed ws h.1)
 
 -- what a use's substitution makes of variables
-module _ (P : Tree → Type 0) (kept : List Tree) (free : List ℕ) (s : List (ℕ × Tree)) (binds : BindsParts kept free s) (of_part : (t : Tree) → IsPartOf kept t → P t) (of_rigid : (n : ℕ) → P (leaf (rigid n))) where
+module _ (P : Tree → Type 0) (kept : List Tree) (free : List ℕ) (s : List (ℕ × Tree)) (binds : BindsParts kept free s) (of_part : (t : Tree) → IsPartOf kept t → P t)
+    (of_rigid : (n : ℕ) → P (leaf (rigid n))) where
   pub generic_meets : (n : ℕ) → P (generic s n)
   generic_meets n = go (bound s n) refl
     where
@@ -229,7 +233,9 @@ instance_leaf known z h (ax n) = tt
 instance_leaf known z h (entry n) = tt
 instance_leaf known z h (rigid n) = tt
 
-pub instances_constructed : (known : List Shape) (z : ℕ → Tree) (ps : Trees) → ((n : ℕ) → IsConstructorTerm known (z n)) → AreConstructorTerms known ps → AreConstructorTerms known (substitute_all z ps)
+pub instances_constructed :
+    (known : List Shape) (z : ℕ → Tree) (ps : Trees) → ((n : ℕ) → IsConstructorTerm known (z n)) → AreConstructorTerms known ps
+    → AreConstructorTerms known (substitute_all z ps)
 instances_constructed known z ps h c =
     built_instances AnyLeaf (HasShape known Constructor) AnyLeaf (variables_to z) ps c (λ x k l. instance_leaf known z h x)
 
@@ -255,7 +261,8 @@ module _ (theory : Theory) (accepted : IsAccepted theory) (plain : HasPlainRules
   possible_over signature c t (inl m) = built_subterm (IsLeafOver signature) (HasArity (shapes signature)) (message_over signature frame c.is_frame m.place m.whole m.there) m.within
   possible_over signature c t (inr g) = built_subterm (IsLeafOver signature) (HasArity (shapes signature)) (let o = c.rules_over g.rule g.listed in o.1) g.within
 
-  module _ (recipes kept : List Tree) (possible : (k : ℕ) (t : Tree) → slice_get kept k ≡ Some t → IsPossible theory frame t) (rule : Rule) (listed : HasRule theory rule) (r v : Tree) (made : GivesNew rule recipes kept r v) where
+  module _ (recipes kept : List Tree) (possible : (k : ℕ) (t : Tree) → slice_get kept k ≡ Some t → IsPossible theory frame t) (rule : Rule) (listed : HasRule theory rule) (r v : Tree)
+      (made : GivesNew rule recipes kept r v) where
     abbrev by : ℕ → Tree
     by = generic made.by
 
@@ -282,7 +289,8 @@ module _ (theory : Theory) (accepted : IsAccepted theory) (plain : HasPlainRules
       ws_constructed =
           ways_constructed theory.shapes kept ws
           (subst (AreConstructorTerms theory.shapes) (sym app_way.give)
-          (instances_constructed theory.shapes by head.patterns (generic_meets (IsConstructorTerm theory.shapes) kept (variables rule.left) made.by made.parts part_constructed (λ n. tt)) head.constructed))
+          (instances_constructed theory.shapes by head.patterns (generic_meets (IsConstructorTerm theory.shapes) kept (variables rule.left) made.by made.parts part_constructed (λ n. tt))
+          head.constructed))
 
       kept_low : HaveNoRigidName kept
       kept_low k t e = possible_low clean t (possible k t e)
@@ -346,7 +354,8 @@ module _ (theory : Theory) (accepted : IsAccepted theory) (plain : HasPlainRules
       named_over : IsOver signature (put_entries kept (filled own_name made.way))
       named_over =
           subst (IsOver signature) (sym (put_filled kept (kept_low (common_clean signature theory frame common)) own_name made.way ∙ ap (filled own_name) made.composes.builds.gives))
-          (built_instance (IsLeafOver signature) (HasArity (shapes signature)) (IsLeafOver signature) (rigid_names_to own_name) (substitute by rule.left) left_over (λ x k l. over_filled signature x l))
+          (built_instance (IsLeafOver signature) (HasArity (shapes signature)) (IsLeafOver signature) (rigid_names_to own_name) (substitute by rule.left) left_over
+          (λ x k l. over_filled signature x l))
 
       pub use_recipe : length recipes ≡ length kept → All (IsRecipe signature (length frame)) recipes → IsRecipe signature (length frame) r
       use_recipe e all =

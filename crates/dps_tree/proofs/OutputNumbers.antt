@@ -5,7 +5,7 @@ use Rattle.std.specs.List.Sorted.{IsPermutation}
 use Rattle.std.proofs.lemmas.Option.{none-some}
 use Rattle.dps_terms.specs.Tree.{Tree}
 use Rattle.dps_process.specs.Process.{Process, nil, parallel, output}
-use Rattle.dps_process.specs.Steps.{Takes, here, there, IsReordered, no_parts as none_reordered, a_part as part_reordered}
+use Rattle.dps_process.specs.Steps.{Removes, here, there, IsReordered, no_parts as none_reordered, a_part as part_reordered}
 use Rattle.dps_process.proofs.Bags.{reordered_refl, reordered_trans, reordered_sym, before_reordered}
 use Rattle.dps_tree.specs.Playing.{settled}
 use Rattle.dps_tree.specs.Table.{StandFor, no_parts, a_part, StandForBag, IsGrown, messages_of}
@@ -71,11 +71,11 @@ pub record StandAround (table : Table) (p : Process) (ns : List ℕ) (rest : Lis
 pub record StandAt (table : Table) (place n : ℕ) (ns : List ℕ) (ps : List Process) : Type 0 where
   pub part : Process
   pub rest : List Process
-  pub taken : Takes part ps rest
+  pub taken : Removes part ps rest
   pub one : StandsForOne table n part
   pub others : StandFor table (take place ns ++ drop (place + 1) ns) rest
 
-taken_before : {p : Process} {ls left : List Process} → Takes p ls left → (cs : List Process) → Takes p (ls ++ cs) (left ++ cs)
+taken_before : {p : Process} {ls left : List Process} → Removes p ls left → (cs : List Process) → Removes p (ls ++ cs) (left ++ cs)
 taken_before here cs = here
 taken_before (there t) cs = there (taken_before t cs)
 
@@ -113,7 +113,9 @@ module _ {table : Table} where
   stand_cases (a_part e m below r h) = record { part = _; others = _; same = refl; one = a_part e m below r no_parts; rest = h }
 
   -- the numbers in another order stand for the parts in another order
-  drawn_stands : {n : ℕ} {p : Process} {ns rest : List ℕ} {ps : List Process} → Draws n ns rest → StandsForOne table n p → StandFor table rest ps → (qs : List Process) × StandFor table ns qs × Takes p qs ps
+  drawn_stands :
+      {n : ℕ} {p : Process} {ns rest : List ℕ} {ps : List Process} → Draws n ns rest → StandsForOne table n p → StandFor table rest ps
+      → (qs : List Process) × StandFor table ns qs × Removes p qs ps
   drawn_stands {p = p} {ps = ps} drawn_here one h = (p ∷ ps, stand_more one h, here)
   drawn_stands (drawn_there d) one (a_part e m below r h) =
       let k = drawn_stands d one h in (_ ∷ k.0, a_part e m below r k.1, there k.2)
@@ -152,7 +154,7 @@ module _ {table : Table} where
     others = subst (λ (ms : List ℕ). StandFor table (k ∷ (take a.place ns ++ ms)) (q ∷ rest)) (sym (dropped k ns a.place)) (stand_more one a.others);
   }
 
-  pub stand_around : {p : Process} {ns : List ℕ} {ps rest : List Process} → Takes p ps rest → StandFor table ns ps → StandAround table p ns rest
+  pub stand_around : {p : Process} {ns : List ℕ} {ps rest : List Process} → Removes p ps rest → StandFor table ns ps → StandAround table p ns rest
   stand_around here (a_part {n = n} e m below r h) = record { place = 0; number = n; there = refl; one = a_part e m below r no_parts; others = h }
   stand_around (there t) (a_part e m below r h) = around_later (a_part e m below r no_parts) (stand_around t h)
 
@@ -173,7 +175,7 @@ module _ {table : Table} where
       record {
         part = f.part;
         rest = f.others;
-        taken = subst (λ (qs : List Process). Takes f.part qs f.others) (sym f.same) here;
+        taken = subst (λ (qs : List Process). Removes f.part qs f.others) (sym f.same) here;
         one = subst (λ (m : ℕ). StandsForOne table m f.part) s f.one;
         others = f.rest;
       }
@@ -181,14 +183,16 @@ module _ {table : Table} where
       let f = stand_cases h in
       subst (λ (qs : List Process). StandAt table (suc place) n (k ∷ ns) qs) (sym f.same) (at_later f.one (stand_at ns place n f.others e f.rest))
 
-  pub stand_put : (ns : List ℕ) (place n : ℕ) (p : Process) (ps : List Process) → slice_get ns place ≡ Some n → StandsForOne table n p → StandFor table (take place ns ++ drop (place + 1) ns) ps → (qs : List Process) × StandFor table ns qs × Takes p qs ps
+  pub stand_put :
+      (ns : List ℕ) (place n : ℕ) (p : Process) (ps : List Process) → slice_get ns place ≡ Some n → StandsForOne table n p
+      → StandFor table (take place ns ++ drop (place + 1) ns) ps → (qs : List Process) × StandFor table ns qs × Removes p qs ps
   stand_put [] place n p ps e one h = absurd (none-some n e)
   stand_put (k ∷ ns) zero n p ps e one h =
       let s : k ≡ n = cc in (p ∷ ps, stand_more (subst (λ (m : ℕ). StandsForOne table m p) (sym s) one) h, here)
   stand_put (k ∷ ns) (suc place) n p ps e one h =
       let f = stand_cases (subst (λ (ms : List ℕ). StandFor table (k ∷ (take place ns ++ ms)) ps) (dropped k ns place) h) in
       let r = stand_put ns place n p f.others e one f.rest in
-      (f.part ∷ r.0, stand_more f.one r.1, subst (λ (qs : List Process). Takes p (f.part ∷ r.0) qs) (sym f.same) (there r.2))
+      (f.part ∷ r.0, stand_more f.one r.1, subst (λ (qs : List Process). Removes p (f.part ∷ r.0) qs) (sym f.same) (there r.2))
 
   pub settled_beside : {ns : List ℕ} {ps : List Process} → StandFor table ns ps → settled (side_by_side ps) ≡ ps
   settled_beside no_parts = refl

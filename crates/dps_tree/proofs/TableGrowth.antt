@@ -16,7 +16,7 @@ use Rattle.dps_tree.specs.Table.{StandFor, no_parts, a_part, messages_of, HasMes
 use Rattle.dps_tree.specs.declared.table.Output.{Output}
 use Rattle.dps_tree.specs.declared.table.Table.{Table}
 use Rattle.dps_tree.proofs.Lifting.{frame_append, frame_more}
-use Rattle.dps_tree.proofs.Standing.{grown_refl, grown_trans, bag_grown, bag_append, bag_permuted}
+use Rattle.dps_tree.proofs.OutputNumbers.{grown_refl, grown_trans, bag_grown, bag_append, bag_permuted}
 
 pub get_kept : {A : Type 0} (xs ys : List A) (n : ℕ) (x : A) → slice_get xs n ≡ Some x → slice_get (xs ++ ys) n ≡ Some x
 get_kept [] ys n x e = absurd (none-some x e)
@@ -40,7 +40,9 @@ pub message_found : (table : Table) (u : Tree) (n : ℕ) → IsMessageThere tabl
 message_found table u n h =
     record { grown = grown_refl table; there = get_mapped seen table.messages.items n h.0 h.1 ∙ ap Some h.2 }
 
-pub message_pushed : (old new : Table) (x : TermRef) (u : Tree) → new.outputs.items ≡ old.outputs.items → new.messages.items ≡ old.messages.items ++ x ∷ [] → seen x ≡ u → HasMessage old new u (length old.messages.items)
+pub message_pushed :
+    (old new : Table) (x : TermRef) (u : Tree) → new.outputs.items ≡ old.outputs.items → new.messages.items ≡ old.messages.items ++ x ∷ [] → seen x ≡ u
+    → HasMessage old new u (length old.messages.items)
 message_pushed old new x u o m e = record {
   grown = record {
     outputs = λ n p g. ap (λ ps. slice_get ps n) o ∙ g;
@@ -69,7 +71,9 @@ nil_settled table numbers =
 pub not_settled : (p : Process) (table : Table) (numbers : List ℕ) → ((signature : Signature) → ¬ HasOutputsAlone signature p) → IsSettled p table table numbers numbers
 not_settled p table numbers h = record { grown = grown_refl table; added = λ signature k. absurd (h signature k) }
 
-pub parallel_settled : (p q : Process) (old mid new : Table) (before between after : List ℕ) → IsSettled p old mid before between → IsSettled q mid new between after → IsSettled (parallel p q) old new before after
+pub parallel_settled :
+    (p q : Process) (old mid new : Table) (before between after : List ℕ) → IsSettled p old mid before between → IsSettled q mid new between after
+    → IsSettled (parallel p q) old new before after
 parallel_settled p q old mid new before between after h k = record {
   grown = grown_trans h.grown k.grown;
   added = λ signature a. (let left = h.added signature a.0 in
@@ -80,7 +84,10 @@ parallel_settled p q old mid new before between after h k = record {
       ));
 }
 
-pub output_settled : (c : ℕ) (u : Tree) (q : Process) (first second third fourth : Table) (below sorted numbers after : List ℕ) (m n : ℕ) (o : Output) → IsSettled q first second [] below → IsPermutation below sorted → HasMessage second third u m → HasOutput third fourth o n → o.channel ≡ c → o.message ≡ m → o.then.items ≡ sorted → after ≡ numbers ++ n ∷ [] → IsSettled (output c u q) first fourth numbers after
+pub output_settled :
+    (c : ℕ) (u : Tree) (q : Process) (first second third fourth : Table) (below sorted numbers after : List ℕ) (m n : ℕ) (o : Output)
+    → IsSettled q first second [] below → IsPermutation below sorted → HasMessage second third u m → HasOutput third fourth o n → o.channel ≡ c → o.message ≡ m
+    → o.then.items ≡ sorted → after ≡ numbers ++ n ∷ [] → IsSettled (output c u q) first fourth numbers after
 output_settled c u q first second third fourth below sorted numbers after m n o s p h k oc om ot e = record {
   grown = grown_trans s.grown (grown_trans h.grown k.grown);
   added = λ signature a. (let b = s.added signature a.1 in
@@ -90,7 +97,8 @@ output_settled c u q first second third fourth below sorted numbers after m n o 
       let whole = bag_grown (grown_trans h.grown k.grown) bag in
       let channel : there.channel ≡ c = one.channel ∙ oc in
       let message : slice_get (messages_of fourth) there.message ≡ Some u = ap (slice_get (messages_of fourth)) (one.message ∙ om) ∙ k.grown.messages m u h.there in
-      let part : StandFor fourth (n ∷ []) (output there.channel u q ∷ []) = a_part k.there.1 message (subst (λ (ns : List ℕ). StandFor fourth ns whole.0) (sym (one.then ∙ ot)) whole.1) whole.2 no_parts in
+      let part : StandFor fourth (n ∷ []) (output there.channel u q ∷ []) = a_part k.there.1 message (subst (λ (ns : List ℕ). StandFor fourth ns whole.0) (sym (one.then ∙ ot)) whole.1) whole.2
+      no_parts in
       (n ∷ [], e, (output c u q ∷ [], subst (λ (d : ℕ). StandFor fourth (n ∷ []) (output d u q ∷ [])) channel part, reordered_refl (output c u q ∷ []))));
 }
 
@@ -107,7 +115,9 @@ get_mapped_none f (x ∷ xs) zero e = absurd (none-some x (sym e))
 get_mapped_none f (x ∷ xs) (suc n) e = get_mapped_none f xs n e
 
 -- the frame with one more number, of a message or of none
-pub frame_pushed : (table : Table) (ns : List ℕ) (n : ℕ) (x : TermRef) (fs : List Tree) → slice_get table.messages.items n ≡ Some x → fs ≡ frame_of table ns → fs ++ seen x ∷ [] ≡ frame_of table (ns ++ n ∷ [])
+pub frame_pushed :
+    (table : Table) (ns : List ℕ) (n : ℕ) (x : TermRef) (fs : List Tree) → slice_get table.messages.items n ≡ Some x → fs ≡ frame_of table ns
+    → fs ++ seen x ∷ [] ≡ frame_of table (ns ++ n ∷ [])
 frame_pushed table ns n x fs e h =
     ap (λ gs. gs ++ seen x ∷ []) h ∙ sym (frame_more table ns n (seen x) (get_mapped seen table.messages.items n x e))
 
