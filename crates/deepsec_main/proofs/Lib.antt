@@ -1,3 +1,4 @@
 pub mod Planning
 pub mod Completing
+pub mod Reporting
 pub mod Reading

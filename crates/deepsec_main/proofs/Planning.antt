@@ -146,7 +146,9 @@ option_wrong w f rest e o = record {
         let same : f ≡ k.0 = (let a = k.1 in cc) in
         k.2 (subst IsOption same o)
 
-pub option_for_file : (ws : List (String Global)) (f : String Global) → 2 ≤ length ws → BeginsWith (codes "check") (texts ws) → f ≡ get_or ws 1 f → IsOption (string_bytes f) → IsFirstWrong (texts ws) 2
+pub option_for_file :
+    (ws : List (String Global)) (f : String Global) → 2 ≤ length ws → BeginsWith (codes "check") (texts ws) → f ≡ get_or ws 1 f → IsOption (string_bytes f)
+    → IsFirstWrong (texts ws) 2
 option_for_file [] f l b i o = absurd (omega arith)
 option_for_file (v ∷ []) f l b i o = absurd (omega arith)
 option_for_file (v ∷ u ∷ ws) f l b i o =
@@ -168,7 +170,8 @@ surplus (v ∷ []) f l b i o = absurd (omega arith)
 surplus (v ∷ u ∷ []) f l b i o = absurd (omega arith)
 surplus (v ∷ u ∷ t ∷ ws) f l b i o =
     surplus_wrong (string_bytes v) (string_bytes u) (string_bytes t) (texts ws)
-    (go_on_from_file (string_bytes v) (string_bytes u) (first_is (codes "check") (string_bytes v) (string_bytes u ∷ string_bytes t ∷ texts ws) b) (subst (λ (x : String Global). ¬ IsOption (string_bytes x)) i o))
+    (go_on_from_file (string_bytes v) (string_bytes u) (first_is (codes "check") (string_bytes v) (string_bytes u ∷ string_bytes t ∷ texts ws) b)
+    (subst (λ (x : String Global). ¬ IsOption (string_bytes x)) i o))
 
 pub asks : (ws : List (String Global)) (f : String Global) → length ws ≡ 2 → BeginsWith (codes "check") (texts ws) → f ≡ get_or ws 1 f → ¬ IsOption (string_bytes f) → AsksOf (texts ws) Check
 asks [] f l b i o = absurd (omega arith)
@@ -203,7 +206,9 @@ asks_for_theory (v ∷ u ∷ t ∷ ws) l b = absurd (omega arith)
 word_there : (words : List (String Global)) (n : ℕ) (word : String Global) → slice_get words n ≡ Some word → word_at (texts words) (suc n) ≡ string_bytes word
 word_there words n word e = ap (λ x. unwrap_or x []) (slice_get-map (λ w. string_bytes w) words n ∙ ap (λ x. option_map (λ w. string_bytes w) x) e)
 
-pub word_at_index : (words : List (String Global)) (number : ℕ) (word : String Global) → 0 < number → number - 1 < length words → word ≡ get_or words (number - 1) word → word_at (texts words) number ≡ string_bytes word
+pub word_at_index :
+    (words : List (String Global)) (number : ℕ) (word : String Global) → 0 < number → number - 1 < length words → word ≡ get_or words (number - 1) word
+    → word_at (texts words) number ≡ string_bytes word
 word_at_index words zero word above within e = absurd (omega arith)
 word_at_index words (suc n) word above within e =
     let same : suc n - 1 ≡ n = omega arith in

@@ -1,8 +1,10 @@
 -- The texts and the statuses of outcomes.
-use Rattle.std.specs.Prelude.{ℕ, List, [], ◌∷◌, ◌++◌, codes, string_bytes}
+use Rattle.std.specs.Prelude.{ℕ, List, [], ◌∷◌, ◌++◌, codes, string_bytes, ⊤}
 use Rattle.std.specs.Fmt.{decimal}
 use Rattle.deepsec_main.specs.declared.outcome.Outcome.{Outcome}
 use Rattle.deepsec_main.specs.declared.outcome.Outcome.TheVariants.{Equivalent, NotEquivalent, TheoryAccepted, Refused, Stopped, NoMemory}
+use Rattle.deepsec_main.specs.declared.report.ReportText.{ReportText}
+use Rattle.deepsec_main.specs.declared.report.ReportText.TheVariants.{Short, Long}
 use Rattle.deepsec_main.specs.declared.outcome.StopName.{StopName}
 use Rattle.deepsec_main.specs.declared.outcome.StopName.TheVariants.{TooLong, OpenFault, ReadFault, WordsRefused}
 
@@ -62,3 +64,17 @@ status_of (TheoryAccepted rules) = 0
 status_of (Refused file at column cause) = 3
 status_of (Stopped name word) = stop_status name
 status_of NoMemory = 6
+
+-- the bytes of a text of the code's
+abbrev pub text_bytes : ReportText → List ℕ
+text_bytes (Short text) = text.bytes
+text_bytes (Long text) = string_bytes text
+
+-- the text of the outcome takes memory
+abbrev pub NeedsMemory : Outcome → Type 0
+NeedsMemory Equivalent = ⊥
+NeedsMemory (NotEquivalent trace) = ⊤
+NeedsMemory (TheoryAccepted rules) = ⊥
+NeedsMemory (Refused file at column cause) = ⊤
+NeedsMemory (Stopped name word) = ⊥
+NeedsMemory NoMemory = ⊥

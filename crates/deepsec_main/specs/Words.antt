@@ -1,6 +1,7 @@
 -- What the words of the command line ask for.
-use Rattle.std.specs.Prelude.{◌≡◌, ℕ, zero, suc, ◌+◌, ◌<◌, ◌≤◌, List, [], ◌∷◌, ◌++◌, codes, take, length, String, string_bytes, map, unwrap_or, slice_get, ⊤}
+use Rattle.std.specs.Prelude.{◌≡◌, ℕ, zero, suc, ◌+◌, ◌<◌, ◌≤◌, List, [], ◌∷◌, ◌++◌, codes, take, length, String, string_bytes, map, unwrap_or, slice_get}
 use Rattle.std.specs.declared.alloc.Global.{Global}
+use Rattle.dps_process.specs.Models.{Model, Private}
 use Rattle.deepsec_main.specs.declared.command.Command.{Command}
 use Rattle.deepsec_main.specs.declared.command.Command.TheVariants.{Check, Theory}
 use Rattle.deepsec_main.specs.declared.command.PlanRefusal.{PlanRefusal}
@@ -53,6 +54,10 @@ pub record CanGoOn (front : List (List ℕ)) : Type 0 where
   pub numbers : List ℕ
   pub plan : HasPlan (front ++ more) command numbers
 
+-- the words ask for nothing
+abbrev pub HasNoPlan : List (List ℕ) → Type 0
+HasNoPlan words = (command : Command) (numbers : List ℕ) → ¬ HasPlan words command numbers
+
 -- The words have no plan, and this is the number, from 1, of the first that is wrong: with the words before it one can
 -- go on to words with a plan, and with it one can not. A word that is missing has the number after the last.
 pub record IsFirstWrong (words : List (List ℕ)) (number : ℕ) : Type 0 where
@@ -61,9 +66,13 @@ pub record IsFirstWrong (words : List (List ℕ)) (number : ℕ) : Type 0 where
   pub within : before ≤ length words
   pub right : CanGoOn (take before words)
   pub wrong : before < length words → ¬ CanGoOn (take (before + 1) words)
-  pub no_plan : (command : Command) (numbers : List ℕ) → ¬ HasPlan words command numbers
+  pub no_plan : HasNoPlan words
 
--- why the words have no plan; want of memory needs no cause
+-- why no plan is answered: the words have none; or they have one, and there was no memory for it
 abbrev pub RefusesWords : List (List ℕ) → PlanRefusal → Type 0
 RefusesWords words (Wrong number) = IsFirstWrong words number
-RefusesWords words Memory = ⊤
+RefusesWords words Memory = (command : Command) × AsksOf words command
+
+-- The model of communication under which the words ask. No option names one yet, so it is the private one.
+abbrev pub plan_model : List (List ℕ) → Model
+plan_model words = Private

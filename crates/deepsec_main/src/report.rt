@@ -1,12 +1,37 @@
 //! The text and the status of an outcome.
-ghost use Rattle.std.specs.Prelude.{◌≡◌, IfOk, string_bytes};
-ghost use Rattle.deepsec_main.specs.Reports.{report_text, status_of, stop_text, stop_status};
+ghost use Rattle.std.specs.Prelude.{◌≡◌, ◌≤◌, length, IfOk, IsErr};
+ghost use Rattle.deepsec_main.specs.Reports.{report_text, status_of, stop_text, stop_status, text_bytes, NeedsMemory};
+ghost use Rattle.deepsec_main.specs.declared.outcome.Outcome.TheVariants.{Stopped, TheoryAccepted};
 
 use crate::outcome::{Outcome, StopName};
+use arrayvec::ArrayString;
+use itoa::Buffer;
 use std::alloc::{AllocError, Global};
 
-/// The fixed text for want of memory.
-pub const MEMORY_TEXT: &[u8] = b"report 1\nresult: no memory\n";
+/// The text where there was no memory.
+pub const MEMORY_TEXT: &str = "report 1\nresult: no memory\n";
+
+/// A text without a part of unknown length, which takes no memory.
+pub type ShortText = ArrayString<96>;
+
+/// The text of a report.
+#[derive(Drop)]
+pub enum ReportText {
+    Short(ShortText),
+    Long(String),
+}
+
+impl ReportText {
+    /// The bytes of the text.
+    pub fn bytes(&self) -> &[u8]
+        ensures { result.now ≡ text_bytes self.now }
+    {
+        match self {
+            ReportText::Short(text) => text.as_str().as_bytes(),
+            ReportText::Long(text) => text.as_bytes(),
+        }
+    }
+}
 
 fn status_of_stop(name: StopName) -> u8
     ensures { result ≡ stop_status name }
@@ -34,7 +59,8 @@ pub fn status(outcome: &Outcome) -> u8
 }
 
 fn name_of_stop(name: StopName) -> &'static str
-    ensures { result.now ≡ stop_text name }
+    ensures text { result.now ≡ stop_text name }
+    ensures short { length result.now ≤ 13 }
 {
     match name {
         StopName::TooLong => "too long",
@@ -44,32 +70,59 @@ fn name_of_stop(name: StopName) -> &'static str
     }
 }
 
-/// The one text of an outcome.
-pub fn text(alloc: Global, outcome: &Outcome) -> Result<String, AllocError>
-    ensures { IfOk result (λ text. string_bytes text ≡ report_text outcome.now) }
+fn stop(name: StopName, word: u32) -> ShortText
+    ensures { result.bytes ≡ report_text (Stopped name word) }
+{
+    let mut number = Buffer::new();
+    let mut text = ShortText::new();
+    text.push_str("report 1\nresult: ");
+    text.push_str(name_of_stop(name));
+    text.push_str("\nword: ");
+    text.push_str(number.format(word));
+    text.push_str("\n");
+    text
+}
+
+fn accepted(rules: u32) -> ShortText
+    ensures { result.bytes ≡ report_text (TheoryAccepted rules) }
+{
+    let mut number = Buffer::new();
+    let mut text = ShortText::new();
+    text.push_str("report 1\nresult: theory accepted\nrules: ");
+    text.push_str(number.format(rules));
+    text.push_str("\n");
+    text
+}
+
+fn fixed(bytes: &'static str) -> ShortText
+    requires { length bytes.now ≤ 96 }
+    ensures { result.bytes ≡ bytes.now }
+{
+    let mut text = ShortText::new();
+    text.push_str(bytes);
+    text
+}
+
+/// The one text of an outcome. An attack and a refused file have texts that take memory; no other has.
+pub fn text(alloc: Global, outcome: &Outcome) -> Result<ReportText, AllocError>
+    ensures text { IfOk result (λ text. text_bytes text ≡ report_text outcome.now) }
+    ensures memory { IsErr result → NeedsMemory outcome.now }
 {
     match outcome {
-        Outcome::Equivalent => String::from_str(alloc, "report 1\nresult: equivalent\n"),
-        Outcome::NotEquivalent { trace } => {
-            format!(in alloc; "report 1\nresult: not equivalent\nnode: /\n{trace}")
-        }
-        Outcome::TheoryAccepted { rules } => {
-            format!(in alloc; "report 1\nresult: theory accepted\nrules: {rules}\n")
-        }
+        Outcome::Equivalent => Ok(ReportText::Short(fixed("report 1\nresult: equivalent\n"))),
+        Outcome::NotEquivalent { trace } => Ok(ReportText::Long(format!(in alloc;
+            "report 1\nresult: not equivalent\nnode: /\n{trace}"
+        )?)),
+        Outcome::TheoryAccepted { rules } => Ok(ReportText::Short(accepted(*rules))),
         Outcome::Refused {
             file,
             line,
             column,
             cause,
-        } => {
-            format!(in alloc;
-                "report 1\nresult: refused\nfile: {file}\nat: {line}:{column}\ncause: {cause}\n"
-            )
-        }
-        Outcome::Stopped { name, word } => {
-            let name = name_of_stop(*name);
-            format!(in alloc; "report 1\nresult: {name}\nword: {word}\n")
-        }
-        Outcome::NoMemory => String::from_str(alloc, "report 1\nresult: no memory\n"),
+        } => Ok(ReportText::Long(format!(in alloc;
+            "report 1\nresult: refused\nfile: {file}\nat: {line}:{column}\ncause: {cause}\n"
+        )?)),
+        Outcome::Stopped { name, word } => Ok(ReportText::Short(stop(*name, *word))),
+        Outcome::NoMemory => Ok(ReportText::Short(fixed(MEMORY_TEXT))),
     }
 }

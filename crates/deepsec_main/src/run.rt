@@ -1,12 +1,12 @@
 //! The whole program, over the words, the files and the sink that it is given.
 ghost use Rattle.std.specs.Prelude.{◌≡◌, ◌⊎◌, ℕ, List, IfOk, IfErr};
 ghost use Rattle.std.specs.Io.KnownBytes.{append_known};
-ghost use Rattle.dps_io.specs.Counts.{Rose};
-ghost use Rattle.dps_judge.specs.Meaning.{MeansTheory, MeansEquivalent};
+ghost use Rattle.dps_meaning.specs.Meaning.{MeansTheory};
+ghost use Rattle.dps_judge.specs.Meaning.{MeansEquivalent};
 ghost use Rattle.dps_judge.specs.Judgement.{IsAttacked};
-ghost use Rattle.deepsec_main.specs.Words.{texts, IsFirstWrong};
-ghost use Rattle.deepsec_main.specs.Reports.{report_text, attack_report, theory_report};
-ghost use Rattle.deepsec_main.specs.Answers.{AsksOfWord, NamesWord, IsRead, HasReadText, IsTooLong, IsRefusedText, IsCaused, IsReported, IsComplete};
+ghost use Rattle.deepsec_main.specs.Words.{texts, plan_model, HasNoPlan, IsFirstWrong};
+ghost use Rattle.deepsec_main.specs.Reports.{report_text, attack_report, theory_report, NeedsMemory};
+ghost use Rattle.deepsec_main.specs.Answers.{AsksOfWord, NamesWord, IsRead, HasReadText, IsTooLong, IsRefusedText, IsCaused, IsReported, IsUsed, AreKept, FollowsCounts, IsComplete};
 ghost use Rattle.deepsec_main.specs.declared.outcome.Outcome.{Outcome as AnOutcome};
 
 use crate::command::{Command, PlanRefusal};
@@ -16,10 +16,11 @@ use crate::words::{plan, word_of};
 use dps_io::{Files, ReadRefusal, Sink, read_all, write_all};
 use dps_judge::laws::{
     no_text_has_theory_and_none, no_text_is_equivalent_and_attacked, no_text_is_refused_and_judged,
-    no_text_means_two_problems,
 };
 use dps_judge::{TheoryVerdict, Verdict, judge, judge_theory};
 use dps_lex::Place;
+use dps_meaning::laws::no_text_means_two_problems;
+use dps_process::CommModel;
 use std::alloc::{AllocError, Global};
 
 /// The most bytes of a file.
@@ -34,6 +35,13 @@ pub struct Status {
     pub code: u8,
 }
 
+/// The file of this word's number stops the run.
+fn stopped(name: StopName, word: u32) -> Outcome
+    ensures { result ≡ Outcome.Stopped name word }
+{
+    Outcome::Stopped { name, word }
+}
+
 /// The bytes of the file of this word's number, or what stops the run.
 fn file_bytes<F: Files>(
     alloc: Global,
@@ -42,14 +50,14 @@ fn file_bytes<F: Files>(
     files: &mut F,
 ) -> Result<Vec<u8>, Outcome>
     requires { NamesWord (texts words.now) file }
-    ensures read { IfOk result (λ bytes. IsRead (F.told files.old) (F.taken files.new) (texts words.now) file bytes.items) }
-    ensures stopped { IfErr result (IsCaused F.told F.taken F.open_faults F.read_faults (texts words.now) files.old files.new) }
+    ensures read { IfOk result (λ bytes. IsRead (F.state files.old) (F.state files.new) (texts words.now) file bytes.items) }
+    ensures stopped { IfErr result (IsCaused (F.state files.old) (F.state files.new) (texts words.now)) }
+    ensures kept { AreKept (F.state files.old) (F.state files.new) }
 {
-    let stopped = |name: StopName| Outcome::Stopped { name, word: file };
     match read_all(alloc, files, word_of(words, file), LIMIT) {
-        Err(ReadRefusal::OpenFault) => Err(stopped(StopName::OpenFault)),
-        Err(ReadRefusal::ReadFault) => Err(stopped(StopName::ReadFault)),
-        Err(ReadRefusal::TooLong) => Err(stopped(StopName::TooLong)),
+        Err(ReadRefusal::OpenFault) => Err(stopped(StopName::OpenFault, file)),
+        Err(ReadRefusal::ReadFault) => Err(stopped(StopName::ReadFault, file)),
+        Err(ReadRefusal::TooLong) => Err(stopped(StopName::TooLong, file)),
         Err(ReadRefusal::Memory) => Err(Outcome::NoMemory),
         Ok(bytes) => Ok(bytes),
     }
@@ -70,13 +78,14 @@ fn refused(file: u32, place: Place, cause: String) -> Outcome
 /// What checking the file of this word's number comes to.
 fn check<F: Files>(alloc: Global, words: &[String], file: u32, files: &mut F) -> Outcome
     requires { AsksOfWord (texts words.now) Command.Check file }
-    ensures { IsCaused F.told F.taken F.open_faults F.read_faults (texts words.now) files.old files.new result }
+    ensures caused { IsCaused (F.state files.old) (F.state files.new) (texts words.now) result }
+    ensures kept { AreKept (F.state files.old) (F.state files.new) }
 {
     let bytes = match file_bytes(alloc, words, file, files) {
         Err(outcome) => return outcome,
         Ok(bytes) => bytes,
     };
-    match judge(alloc, &bytes) {
+    match judge(alloc, &bytes, CommModel::Private) {
         Err(AllocError) => Outcome::NoMemory,
         Ok(Verdict::Equivalent) => Outcome::Equivalent,
         Ok(Verdict::NotEquivalent { trace }) => Outcome::NotEquivalent { trace },
@@ -87,7 +96,8 @@ fn check<F: Files>(alloc: Global, words: &[String], file: u32, files: &mut F) ->
 /// What the theory of the file of this word's number comes to.
 fn theory<F: Files>(alloc: Global, words: &[String], file: u32, files: &mut F) -> Outcome
     requires { AsksOfWord (texts words.now) Command.Theory file }
-    ensures { IsCaused F.told F.taken F.open_faults F.read_faults (texts words.now) files.old files.new result }
+    ensures caused { IsCaused (F.state files.old) (F.state files.new) (texts words.now) result }
+    ensures kept { AreKept (F.state files.old) (F.state files.new) }
 {
     let bytes = match file_bytes(alloc, words, file, files) {
         Err(outcome) => return outcome,
@@ -102,7 +112,8 @@ fn theory<F: Files>(alloc: Global, words: &[String], file: u32, files: &mut F) -
 
 /// What the words come to.
 fn outcome<F: Files>(alloc: Global, words: &[String], files: &mut F) -> Outcome
-    ensures { IsCaused F.told F.taken F.open_faults F.read_faults (texts words.now) files.old files.new result }
+    ensures caused { IsCaused (F.state files.old) (F.state files.new) (texts words.now) result }
+    ensures kept { AreKept (F.state files.old) (F.state files.new) }
 {
     match plan(alloc, words) {
         Err(PlanRefusal::Wrong(word)) => Outcome::Stopped {
@@ -130,24 +141,25 @@ fn send<W: Sink>(sink: &mut W, bytes: &[u8], reached: &Outcome) -> Status
     }
 }
 
-/// Reports an outcome, or want of memory where its text finds none.
+/// Reports an outcome, or that there was no memory, where its text needs some and finds none.
 fn report<W: Sink>(alloc: Global, sink: &mut W, reached: Outcome) -> (Outcome, Status)
-    ensures kept { (result.0 ≡ reached) ⊎ (result.0 ≡ Outcome.NoMemory) }
+    ensures kept { (result.0 ≡ reached) ⊎ ((result.0 ≡ Outcome.NoMemory) × NeedsMemory reached) }
     ensures reported { IsReported W.written W.faults sink.old sink.new result.0 result.1.code }
 {
     match text(alloc, &reached) {
         Ok(text) => {
-            let status = send(sink, text.as_bytes(), &reached);
+            let status = send(sink, text.bytes(), &reached);
             (reached, status)
         }
         Err(AllocError) => {
-            let status = send(sink, MEMORY_TEXT, &Outcome::NoMemory);
+            let status = send(sink, MEMORY_TEXT.as_bytes(), &Outcome::NoMemory);
             (Outcome::NoMemory, status)
         }
     }
 }
 
 /// All that the program does with these words, those after its name, with these files and this sink.
+#[tactic(none)]
 pub fn run_one<F: Files, W: Sink>(
     alloc: Global,
     words: &[String],
@@ -155,32 +167,36 @@ pub fn run_one<F: Files, W: Sink>(
     sink: &mut W,
 ) -> Status
     // The headline. `check` says equivalent: the text of the file means a problem, and its two processes are trace
-    // equivalent.
+    // equivalent in the model under which the words ask.
     ensures equivalent { (file : ℕ) → AsksOfWord (texts words.now) Command.Check file → result.code ≡ 0
-        → HasReadText (F.told files.old) (F.taken files.new) (texts words.now) Command.Check file MeansEquivalent }
+        → HasReadText (F.state files.old) (F.state files.new) (texts words.now) Command.Check file (MeansEquivalent (plan_model (texts words.now))) }
     // Not equivalent: it means a problem with an attack, and the trace of the attack is what is printed.
     ensures not_equivalent { result.code ≡ 1 → (file : ℕ) × (trace : List ℕ)
-        × HasReadText (F.told files.old) (F.taken files.new) (texts words.now) Command.Check file (λ bytes. IsAttacked bytes trace)
+        × HasReadText (F.state files.old) (F.state files.new) (texts words.now) Command.Check file (λ bytes. IsAttacked (plan_model (texts words.now)) bytes trace)
         × (W.written sink.new ≡ append_known (W.written sink.old) (attack_report trace)) }
 
     // `theory` says accepted: the rules of the text are accepted, and their number is printed.
     ensures theory_accepted { (file : ℕ) → AsksOfWord (texts words.now) Command.Theory file → result.code ≡ 0
-        → (rules : ℕ) × HasReadText (F.told files.old) (F.taken files.new) (texts words.now) Command.Theory file (λ bytes. MeansTheory bytes rules)
+        → (rules : ℕ) × HasReadText (F.state files.old) (F.state files.new) (texts words.now) Command.Theory file (λ bytes. MeansTheory bytes rules)
         × (W.written sink.new ≡ append_known (W.written sink.old) (theory_report rules)) }
 
     // Each other status comes only from its cause.
-    ensures refused { result.code ≡ 3 → (file : ℕ) × IsRefusedText (F.told files.old) (F.taken files.new) (texts words.now) file }
-    ensures file_fault { result.code ≡ 4 → Rose (F.open_faults files.old) (F.open_faults files.new) ⊎ Rose (F.read_faults files.old) (F.read_faults files.new) }
-    ensures write_fault { result.code ≡ 5 → Rose (W.faults sink.old) (W.faults sink.new) }
+    ensures refused { result.code ≡ 3 → (file : ℕ) × IsRefusedText (F.state files.old) (F.state files.new) (texts words.now) file }
+    ensures counts { FollowsCounts (F.state files.old) (F.state files.new) (W.faults sink.old) (W.faults sink.new) result.code }
     ensures words_refused { result.code ≡ 7 → (wrong : ℕ) × IsFirstWrong (texts words.now) wrong }
-    ensures too_long { result.code ≡ 8 → (file : ℕ) × IsTooLong (F.told files.old) (F.taken files.new) (texts words.now) file }
+    ensures too_long { result.code ≡ 8 → (file : ℕ) × IsTooLong (F.state files.old) (F.state files.new) (texts words.now) file }
 
     // Some outcome has its cause, and is reported.
-    ensures answer { (outcome : AnOutcome) × IsCaused F.told F.taken F.open_faults F.read_faults (texts words.now) files.old files.new outcome
+    ensures answer { (outcome : AnOutcome) × IsCaused (F.state files.old) (F.state files.new) (texts words.now) outcome
         × IsReported W.written W.faults sink.old sink.new outcome result.code }
 
+    // No file is touched where the words are refused, and none but the one that they name, which is opened once.
+    ensures untouched { HasNoPlan (texts words.now) → F.state files.new ≡ F.state files.old }
+    ensures used { IsUsed (F.state files.old) (F.state files.new) (texts words.now) }
+    ensures kept { AreKept (F.state files.old) (F.state files.new) }
+
     // Where nothing fails, the words and the file decide the status.
-    ensures complete { IsComplete F.told F.open_faults F.read_faults W.faults (texts words.now) files.old files.new sink.old sink.new result.code }
+    ensures complete { IsComplete (F.state files.old) (F.state files.new) (W.faults sink.old) (W.faults sink.new) (texts words.now) result.code }
 {
     no_text_means_two_problems();
     no_text_has_theory_and_none();
@@ -194,5 +210,5 @@ pub fn run_one<F: Files, W: Sink>(
 pub fn without_memory<W: Sink>(sink: &mut W) -> Status
     ensures { IsReported W.written W.faults sink.old sink.new Outcome.NoMemory result.code }
 {
-    send(sink, MEMORY_TEXT, &Outcome::NoMemory)
+    send(sink, MEMORY_TEXT.as_bytes(), &Outcome::NoMemory)
 }

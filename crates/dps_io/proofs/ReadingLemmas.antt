@@ -37,7 +37,9 @@ longer told (Some xs) bytes limit read more =
     subst P (sym read) (omega (arith, length-append bytes xs))
 
 -- and so with the piece that was read last
-pub longer_by : (told old new : Option (List ℕ)) (bytes piece : List ℕ) (limit : ℕ) → told ≡ prepend_known bytes old → old ≡ prepend_known piece new → limit < length bytes + length piece → IfSome told (λ told. limit < length told)
+pub longer_by :
+    (told old new : Option (List ℕ)) (bytes piece : List ℕ) (limit : ℕ) → told ≡ prepend_known bytes old → old ≡ prepend_known piece new
+    → limit < length bytes + length piece → IfSome told (λ told. limit < length told)
 longer_by told old new bytes piece limit before read more = longer told new (bytes ++ piece) limit (read_more told old new bytes piece before read) (omega (arith, length-append bytes piece))
 
 -- what was read so far
@@ -45,7 +47,10 @@ pub has_read : (told old new : Option (List ℕ)) (bytes : List ℕ) (count : �
 has_read told old new bytes count before kept all = record { bytes = bytes; all_counted = sym all; others_left = before ∙ ap (prepend_known bytes) (sym kept) }
 
 -- and so with the piece that was read last
-pub has_read_more : (told old new : Option (List ℕ)) (bytes piece : List ℕ) (count : ℕ) → told ≡ prepend_known bytes old → old ≡ prepend_known piece new → count ≡ length bytes + length piece → HasRead count told new
-has_read_more told old new bytes piece count before read all = record { bytes = bytes ++ piece; all_counted = length-append bytes piece ∙ sym all; others_left = read_more told old new bytes piece before read }
+pub has_read_more :
+    (told old new : Option (List ℕ)) (bytes piece : List ℕ) (count : ℕ) → told ≡ prepend_known bytes old → old ≡ prepend_known piece new
+    → count ≡ length bytes + length piece → HasRead count told new
+has_read_more told old new bytes piece count before read all =
+    record { bytes = bytes ++ piece; all_counted = length-append bytes piece ∙ sym all; others_left = read_more told old new bytes piece before read }
 
 pub ruleset for_read_all = (prepend_none, read_more, read_whole, longer_by, has_read, has_read_more)

@@ -31,7 +31,9 @@ rest_length : (first now : Option (List ℕ)) (bytes rest : List ℕ) (w : IsWri
 rest_length first now bytes rest w = ap length w.rest_is ∙ length-drop w.count bytes
 
 -- one more piece was written
-pub written_more : (first old new : Option (List ℕ)) (bytes rest : List ℕ) (n : ℕ) → IsWritten first old bytes rest → n ≤ length rest → new ≡ append_known old (take n rest) → IsWritten first new bytes (drop n rest)
+pub written_more :
+    (first old new : Option (List ℕ)) (bytes rest : List ℕ) (n : ℕ) → IsWritten first old bytes rest → n ≤ length rest → new ≡ append_known old (take n rest)
+    → IsWritten first new bytes (drop n rest)
 written_more first old new bytes rest n w le appended = record {
   count = w.count + n;
   within = (let e = rest_length first old bytes rest w in let within = w.within in omega arith);

@@ -5,6 +5,11 @@ use Rattle.std.specs.Prelude.{◌≡◌, ◌⊎◌, ℕ, ◌+◌, ◌-◌, ◌^�
 abbrev pub counted : ℕ → ℕ → ℕ
 counted count more = min (count + more) (2 ^ 64 - 1)
 
+-- a count of calls over one call: it never falls, and it has one more, but for its last value
+pub record CountsCall (before now : ℕ) : Type 0 where
+  pub never_falls : before ≤ now
+  pub one_more : now ≡ counted before 1
+
 -- the count rose, or stands at its last value
 abbrev pub Rose : ℕ → ℕ → Type 0
 Rose before now = (before < now) ⊎ (now ≡ 2 ^ 64 - 1)

@@ -9,13 +9,14 @@ pub record HeldFile : Type 0 where
   pub bytes : List ℕ
 
 -- files in memory: all files; the numbers of the calls that fail; whether a file is open, what is left of it, and
--- how many of its bytes were read; how many calls were made, and how many of each kind failed
+-- how many of its bytes were read; how many calls of `open` and of both kinds were made, and how many of each kind failed
 pub record HeldFiles : Type 0 where
   pub files : List HeldFile
   pub failing : List ℕ
   pub is_open : Bool
   pub left : Option (List ℕ)
   pub taken : ℕ
+  pub opens : ℕ
   pub calls : ℕ
   pub open_faults : ℕ
   pub read_faults : ℕ

@@ -12,6 +12,7 @@ pub struct HostFiles<'a, R: rt::Files> {
     rt: &'a R,
     file: Option<R::File>,
     taken: u64,
+    opens: u64,
     calls: u64,
     open_faults: u64,
     read_faults: u64,
@@ -26,6 +27,7 @@ impl<'a, R: rt::Files> Model for HostFiles<'a, R> {
     ghost view = { λ inside. record {
       is_open = is_some inside.file;
       taken = inside.taken;
+      opens = inside.opens;
       calls = inside.calls;
       open_faults = inside.open_faults;
       read_faults = inside.read_faults;
@@ -38,16 +40,18 @@ impl<'a, R: rt::Files> HostFiles<'a, R> {
         ensures state { result ≡ record {
           is_open = false;
           taken = 0;
+          opens = 0;
           calls = 0;
           open_faults = 0;
           read_faults = 0;
         } }
-        ensures told { (name : List ℕ) → ⟦<HostFiles<'a, R> as Files>⟧.told result name ≡ None }
+        ensures told { (name : List ℕ) → (⟦<HostFiles<'a, R> as Files>⟧.state result).told name ≡ None }
     {
         HostFiles {
             rt,
             file: None,
             taken: 0,
+            opens: 0,
             calls: 0,
             open_faults: 0,
             read_faults: 0,
@@ -56,22 +60,20 @@ impl<'a, R: rt::Files> HostFiles<'a, R> {
 }
 
 impl<R: rt::Files> Files for HostFiles<'_, R> {
-    ghost told = { λ _ _. None };
-
-    ghost is_open = { λ host. host.is_open };
-
-    ghost left = { λ _. None };
-
-    ghost taken = { λ host. host.taken };
-
-    ghost calls = { λ host. host.calls };
-
-    ghost open_faults = { λ host. host.open_faults };
-
-    ghost read_faults = { λ host. host.read_faults };
+    ghost state = { λ host. record {
+      told = λ _. None;
+      is_open = host.is_open;
+      left = None;
+      taken = host.taken;
+      opens = host.opens;
+      calls = host.calls;
+      open_faults = host.open_faults;
+      read_faults = host.read_faults;
+    } };
 
     fn open(&mut self, name: &str) -> Result<(), Failed> {
         self.calls = self.calls.saturating_add(1);
+        self.opens = self.opens.saturating_add(1);
         self.taken = 0;
         match std::fs::open(self.rt, name) {
             Ok(file) => {

@@ -1,7 +1,7 @@
 // Files and a sink in memory, which tell their bytes and fail where they are told to.
 ghost use Rattle.std.specs.Prelude.{◌≡◌, ◌⊎◌, ◌↔◌, ◌+◌, ◌-◌, ◌^◌, ◌<◌, ◌≤◌, ◌++◌, ℕ, List, [], Option, Some, None, false, min, length, take, is_ok, is_some, Contains, IsTrue, IsErr, IsNone, IfOk, IfSome, IfNone, OnOk, OnErr};
 ghost use Rattle.std.specs.Io.KnownBytes.{prepend_known, append_known, IsAtEnd};
-ghost use Rattle.dps_io.specs.Counts.{counted, CountsFaults};
+ghost use Rattle.dps_io.specs.Counts.{counted, CountsCall, CountsFaults};
 ghost use Rattle.dps_io.specs.Bytes.{TellsTheSame};
 ghost use Rattle.dps_io.specs.Held.{held, bytes_named, left_of};
 
@@ -18,6 +18,7 @@ pub struct MemFiles {
     // Where the open file stands among the files.
     place: Option<usize>,
     taken: usize,
+    opens: u64,
     calls: u64,
     open_faults: u64,
     read_faults: u64,
@@ -35,6 +36,7 @@ impl Model for MemFiles {
       is_open = is_some inside.place;
       left = left_of inside.files.items inside.place inside.taken;
       taken = inside.taken;
+      opens = inside.opens;
       calls = inside.calls;
       open_faults = inside.open_faults;
       read_faults = inside.read_faults;
@@ -51,6 +53,7 @@ impl MemFiles {
           is_open = false;
           left = None;
           taken = 0;
+          opens = 0;
           calls = 0;
           open_faults = 0;
           read_faults = 0;
@@ -61,6 +64,7 @@ impl MemFiles {
             failing,
             place: None,
             taken: 0,
+            opens: 0,
             calls: 0,
             open_faults: 0,
             read_faults: 0,
@@ -69,19 +73,16 @@ impl MemFiles {
 }
 
 impl Files for MemFiles {
-    ghost told = { λ held name. bytes_named held.files name };
-
-    ghost is_open = { λ held. held.is_open };
-
-    ghost left = { λ held. held.left };
-
-    ghost taken = { λ held. held.taken };
-
-    ghost calls = { λ held. held.calls };
-
-    ghost open_faults = { λ held. held.open_faults };
-
-    ghost read_faults = { λ held. held.read_faults };
+    ghost state = { λ held. record {
+      told = λ name. bytes_named held.files name;
+      is_open = held.is_open;
+      left = held.left;
+      taken = held.taken;
+      opens = held.opens;
+      calls = held.calls;
+      open_faults = held.open_faults;
+      read_faults = held.read_faults;
+    } };
 
     /// Opens the first file of that name.
     ///
@@ -99,9 +100,11 @@ impl Files for MemFiles {
         ensures same_files { self.new.files ≡ self.old.files }
         ensures open_faults { CountsFaults self.old.open_faults self.new.open_faults result }
         ensures read_faults { self.new.read_faults ≡ self.old.read_faults }
-        ensures calls { self.new.calls ≡ counted self.old.calls 1 }
+        ensures opens { CountsCall self.old.opens self.new.opens }
+        ensures calls { CountsCall self.old.calls self.new.calls }
     {
         self.calls = self.calls.saturating_add(1);
+        self.opens = self.opens.saturating_add(1);
         self.taken = 0;
         self.place = None;
         if !is_listed(&self.failing, self.calls) {
@@ -136,7 +139,8 @@ impl Files for MemFiles {
         ensures same_files { self.new.files ≡ self.old.files }
         ensures read_faults { CountsFaults self.old.read_faults self.new.read_faults result }
         ensures open_faults { self.new.open_faults ≡ self.old.open_faults }
-        ensures calls { self.new.calls ≡ counted self.old.calls 1 }
+        ensures opens { self.new.opens ≡ self.old.opens }
+        ensures calls { CountsCall self.old.calls self.new.calls }
     {
         self.calls = self.calls.saturating_add(1);
         if is_listed(&self.failing, self.calls) {

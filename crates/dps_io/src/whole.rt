@@ -1,7 +1,7 @@
 // Whole files and whole texts, over any files and any sink.
 ghost use Rattle.std.specs.Prelude.{List, ℕ, false, ◌≡◌, ◌+◌, ◌^◌, ◌<◌, ◌≤◌, ◌↔◌, length, vec_len, IsTrue, IfOk, IfSome, OnOk, OnErr, IsErrOf};
 ghost use Rattle.std.specs.Io.KnownBytes.{append_known};
-ghost use Rattle.dps_io.specs.Counts.{Rose, CountsFaults};
+ghost use Rattle.dps_io.specs.Counts.{Rose, CountsCall, CountsFaults};
 ghost use Rattle.dps_io.specs.Bytes.{TellsTheSame, HasRead, AppendsFront};
 ghost use Rattle.dps_io.specs.declared.whole.ReadRefusal.TheVariants.{Memory};
 
@@ -66,30 +66,33 @@ pub fn read_all<F: Files>(
     requires { limit < 2 ^ 32 }
 
     // All bytes of the file, where they are told; and in any case all that was read.
-    ensures whole { IfOk result (λ bytes. IfSome (F.told files.old name.now) (λ told. bytes.items ≡ told)) }
-    ensures all_taken { IfOk result (λ bytes. F.taken files.new ≡ vec_len bytes) }
+    ensures whole { IfOk result (λ bytes. IfSome ((F.state files.old).told name.now) (λ told. bytes.items ≡ told)) }
+    ensures all_taken { IfOk result (λ bytes. (F.state files.new).taken ≡ vec_len bytes) }
     ensures within { IfOk result (λ bytes. vec_len bytes ≤ limit) }
 
     // An open fault comes only where one was counted, and exactly where no file is open.
-    ensures open_fault { IsErrOf result ReadRefusal.OpenFault → Rose (F.open_faults files.old) (F.open_faults files.new) }
-    ensures open_counted { F.open_faults files.old < F.open_faults files.new → IsErrOf result ReadRefusal.OpenFault }
-    ensures closed { IsErrOf result ReadRefusal.OpenFault ↔ (F.is_open files.new ≡ false) }
-    ensures open_faults { F.open_faults files.old ≤ F.open_faults files.new }
+    ensures open_fault { IsErrOf result ReadRefusal.OpenFault → Rose (F.state files.old).open_faults (F.state files.new).open_faults }
+    ensures open_counted { (F.state files.old).open_faults < (F.state files.new).open_faults → IsErrOf result ReadRefusal.OpenFault }
+    ensures closed { IsErrOf result ReadRefusal.OpenFault ↔ ((F.state files.new).is_open ≡ false) }
+    ensures open_faults { (F.state files.old).open_faults ≤ (F.state files.new).open_faults }
 
     // A read fault comes only where one was counted.
-    ensures read_fault { IsErrOf result ReadRefusal.ReadFault → Rose (F.read_faults files.old) (F.read_faults files.new) }
-    ensures read_counted { F.read_faults files.old < F.read_faults files.new → IsErrOf result ReadRefusal.ReadFault }
-    ensures read_faults { F.read_faults files.old ≤ F.read_faults files.new }
+    ensures read_fault { IsErrOf result ReadRefusal.ReadFault → Rose (F.state files.old).read_faults (F.state files.new).read_faults }
+    ensures read_counted { (F.state files.old).read_faults < (F.state files.new).read_faults → IsErrOf result ReadRefusal.ReadFault }
+    ensures read_faults { (F.state files.old).read_faults ≤ (F.state files.new).read_faults }
 
     // A file is too long exactly where one byte more than the limit was read, and no more is ever read.
-    ensures too_long { IsErrOf result ReadRefusal.TooLong ↔ (F.taken files.new ≡ limit + 1) }
-    ensures longer { IsErrOf result ReadRefusal.TooLong → IfSome (F.told files.old name.now) (λ told. limit < length told) }
-    ensures taken { F.taken files.new ≤ limit + 1 }
+    ensures too_long { IsErrOf result ReadRefusal.TooLong ↔ ((F.state files.new).taken ≡ limit + 1) }
+    ensures longer { IsErrOf result ReadRefusal.TooLong → IfSome ((F.state files.old).told name.now) (λ told. limit < length told) }
+    ensures taken { (F.state files.new).taken ≤ limit + 1 }
 
-    // How the files stand afterwards: what is left of the open file, what they tell, and how often they were called.
-    ensures left { IsTrue (F.is_open files.new) → HasRead (F.taken files.new) (F.told files.old name.now) (F.left files.new) }
-    ensures same_files { TellsTheSame (F.told files.old) (F.told files.new) }
-    ensures calls { F.calls files.new ≤ F.calls files.old + 1 + (limit + 2) }
+    // How the files stand afterwards: what is left of the open file, what they tell, and how often they were called. One
+    // call opens the file, so a fault of opening is never passed over.
+    ensures left { IsTrue (F.state files.new).is_open → HasRead (F.state files.new).taken ((F.state files.old).told name.now) (F.state files.new).left }
+    ensures same_files { TellsTheSame (F.state files.old).told (F.state files.new).told }
+    ensures opens { CountsCall (F.state files.old).opens (F.state files.new).opens }
+    ensures calls { (F.state files.new).calls ≤ (F.state files.old).calls + 1 + (limit + 2) }
+    ensures counted_calls { (F.state files.old).calls ≤ (F.state files.new).calls }
 {
     if files.open(name).is_err() {
         return Err(ReadRefusal::OpenFault);

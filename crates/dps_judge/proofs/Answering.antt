@@ -1,51 +1,39 @@
 -- From the calls to the verdict of a text.
-use Rattle.std.proofs.Common.{◌≡◌, ◌<◌, ◌≤◌, ℕ, ◌+◌, ◌^◌, List, [], ◌∷◌, length, Option, Some, None, Result, Ok, Err, IfOk, refl, sym, ap, subst, ◌∙◌, arith}
-use Rattle.std.specs.Prelude.{string_bytes}
+use Rattle.std.proofs.Common.{◌≡◌, ◌<◌, ◌≤◌, ℕ, ◌+◌, List, [], ◌∷◌, length, Some, None, Result, Ok, Err, IfOk, refl, sym, subst}
 use Rattle.std.specs.List.{All}
 use Rattle.std.proofs.lemmas.List.Elements.{All-nil, All-cons}
-use Rattle.std.proofs.lemmas.List.{length-map}
 use Rattle.std.proofs.lemmas.Option.{slice_get_within}
 use Rattle.dps_branch.specs.declared.Side.{Side}
 use Rattle.dps_lex.specs.declared.vocabulary.Place.{Place}
+use Rattle.dps_lex.specs.declared.vocabulary.Fault.{Fault}
+use Rattle.dps_lex.specs.Spelling.{fault_words}
 use Rattle.dps_terms.specs.Signature.{Signature}
-use Rattle.dps_theory.specs.Theory.{Theory, IsAccepted}
 use Rattle.dps_syntax.specs.declared.tree.Decl.{Decl}
 use Rattle.dps_syntax.specs.declared.tree.File.{File}
-use Rattle.dps_syntax.specs.Files.{trees_of, IsFileOfText}
-use Rattle.dps_process.specs.Process.{Process}
-use Rattle.dps_process.specs.Problem.{Problem, side_of, IsLawful, HasHighBinders}
+use Rattle.dps_syntax.specs.Files.{IsFileOfText, IsFirstFault}
+use Rattle.dps_process.specs.Models.{Model}
+use Rattle.dps_process.specs.Problem.{Problem, side_of}
 use Rattle.dps_process.specs.Lawful.{AreLawfulLabels}
 use Rattle.dps_process.specs.Laws.{TracesHaveLawfulLabels}
 use Rattle.dps_tree.specs.Words.{outputs_from, word_of}
 use Rattle.dps_tree.specs.Answer.{IsLeastAttack}
-use Rattle.dps_tree.specs.Plain.{IsPlain}
-use Rattle.dps_theory.specs.Conditions.{AreCheckable}
-use Rattle.dps_names.specs.Program.{WrittenRule, Program}
-use Rattle.dps_names.specs.Answers.{IsProgram}
-use Rattle.dps_names.specs.Laws.{RulesAreCheckable, ProgramsAreWellFormed}
-use Rattle.dps_elab.specs.Rules.{rules_of, theory_of}
-use Rattle.dps_elab.specs.Meaning.{expanded, sides}
-use Rattle.dps_elab.specs.Laws.{SidesAreLawful, BindersAreHigh}
+use Rattle.dps_meaning.specs.Causes.{Cause, reading, cause_text}
+use Rattle.dps_meaning.specs.Meaning.{IsDeclared, AreOfText, IsProblemOf, MeansTheory}
+use Rattle.dps_meaning.specs.Faults.{IsTheoryFault, IsFaultOf, unread, declared}
+use Rattle.dps_meaning.specs.Laws.{ReadFilesAreDeclared}
+use Rattle.dps_meaning.specs.Refusals.{IsChecked}
+use Rattle.dps_meaning.specs.declared.theory.CheckedFile.{CheckedFile}
+use Rattle.dps_theory.specs.Theory.{IsAccepted}
 use Rattle.dps_judge.specs.declared.verdict.Verdict.{Verdict}
 use Rattle.dps_judge.specs.declared.verdict.Verdict.TheVariants.{Equivalent, NotEquivalent, Refused}
-use Rattle.dps_judge.specs.declared.ruling.Ruled.{Ruled}
-use Rattle.dps_judge.specs.declared.ruling.Ruling.{Ruling}
-use Rattle.dps_judge.specs.declared.ruling.Ruling.TheVariants as ruling
-use Rattle.dps_judge.specs.Meaning.{IsDeclared, Says, MeansTheory, Means, IsBuilt}
-use Rattle.dps_judge.specs.Judgement.{HasNoTheory, IsRefused, IsJudged, IsRefusal, IsAnswered}
-use Rattle.dps_judge.specs.Ruling.{IsRuled, IsRuling, Refuses, ruled_problem}
-use Rattle.dps_judge.specs.LawsOfTexts.{AreOfText, AreLawfulSides, problem_over, IsPlainlyMeant}
+use Rattle.dps_judge.specs.declared.verdict.TheoryVerdict.{TheoryVerdict}
+use Rattle.dps_judge.specs.declared.verdict.TheoryVerdict.TheVariants as theory
+use Rattle.dps_judge.specs.Meaning.{IsBuilt, MeansJudged}
+use Rattle.dps_judge.specs.Judgement.{HasNoTheory, IsRefused, meaningless, unbuilt, not_built, IsJudged, JudgesFile, JudgesTheory, IsTheoryJudged, IsAnswered, Refuses, RefusesTheory}
 use Rattle.dps_judge.specs.Unbuilt.{first_unbuilt}
 
--- a file's declarations are those of its text
-pub declared : (bytes : List ℕ) (file : File) → IsFileOfText bytes file → IsDeclared bytes file.declarations.items
-declared bytes file t = record {
-  tree = record { tokens = t.tokens; reading = t.reading; derived = t.file.derived; spelled = t.file.spelled; shallow = t.file.shallow };
-  keywords = t.file.keywords;
-}
-
-pub of_text : (bytes : List ℕ) (file : File) → length bytes ≤ 1048576 → IsFileOfText bytes file → AreOfText file.declarations.items
-of_text bytes file short t = record { bytes = bytes; short = short; text = declared bytes file t }
+pub of_text : ReadFilesAreDeclared → (bytes : List ℕ) (file : File) → length bytes ≤ 1048576 → IsFileOfText bytes file → AreOfText file.declarations.items
+of_text law bytes file short t = record { bytes = bytes; short = short; text = law bytes file t }
 
 pub in_ok : {T E : Type 0} (r : Result T E) (P Q : T → Type 0) → ((x : T) → P x → Q x) → IfOk r P → IfOk r Q
 in_ok (Ok x) P Q f h = f x h
@@ -53,73 +41,66 @@ in_ok (Err e) P Q f h = h
 
 -- refusals
 
-pub refused_judged : (bytes : List ℕ) (place : Place) (cause : List ℕ) → IsRefused bytes place cause → (v : Verdict) → IsRefusal place cause v → IsJudged bytes v
-refused_judged bytes place cause r Equivalent h = absurd h
-refused_judged bytes place cause r (NotEquivalent trace) h = absurd h
-refused_judged bytes place cause r (Refused found why) h = subst (λ c. IsRefused bytes found c) (sym h.1) (subst (λ p. IsRefused bytes p cause) (sym h.0) r)
+refused_judged : (model : Model) (bytes : List ℕ) (place : Place) (text : List ℕ) → IsRefused bytes place text → (v : Verdict) → Refuses place text v → IsJudged model bytes v
+refused_judged model bytes place text r Equivalent h = absurd h
+refused_judged model bytes place text r (NotEquivalent trace) h = absurd h
+refused_judged model bytes place text r (Refused found why) h = subst (λ c. IsRefused bytes found c) (sym h.1) (subst (λ p. IsRefused bytes p text) (sym h.0) r)
 
-pub refuses_text : (bytes : List ℕ) (place : Place) (cause : List ℕ) → HasNoTheory bytes place cause → (r : Ruling) → Refuses place cause r → IsRuling bytes r
-refuses_text bytes place cause n (ruling.Accepted ruled) h = absurd h
-refuses_text bytes place cause n (ruling.Refused found why) h = subst (λ c. HasNoTheory bytes found c) (sym h.1) (subst (λ p. HasNoTheory bytes p cause) (sym h.0) n)
+theory_refused : (bytes : List ℕ) (place : Place) (text : List ℕ) → HasNoTheory bytes place text → (v : TheoryVerdict) → RefusesTheory place text v → IsTheoryJudged bytes v
+theory_refused bytes place text n (theory.Accepted rules) h = absurd h
+theory_refused bytes place text n (theory.Refused found why) h = subst (λ c. HasNoTheory bytes found c) (sym h.1) (subst (λ p. HasNoTheory bytes p text) (sym h.0) n)
 
--- what rules come to
+abbrev pub fault_place : Fault → Place
+fault_place fault = record { line = fault.line; column = fault.column }
 
-pub checkable : RulesAreCheckable → (decls : List Decl) (program : Program) → AreOfText decls → IsProgram decls program → AreCheckable program.signature (rules_of program)
-checkable law decls program text named = law text.bytes decls program text.short text.text.tree named
+pub unread_judged : (model : Model) (bytes : List ℕ) (fault : Fault) → IsFirstFault bytes fault → (v : Verdict) → Refuses (fault_place fault) (fault_words fault.kind) v → IsJudged model bytes v
+unread_judged model bytes fault first v h =
+    refused_judged model bytes (fault_place fault) (fault_words fault.kind) (meaningless (record { cause = reading fault.kind; fault = unread fault first refl refl; printed = refl })) v h
 
-pub few_rules : RulesAreCheckable → (decls : List Decl) (program : Program) → AreOfText decls → IsProgram decls program → length program.rules < 2 ^ 24
-few_rules law decls program text named =
-    omega (arith, (checkable law decls program text named).few, length-map program.rules (λ (r : WrittenRule). r.rule))
+pub unread_theory : (bytes : List ℕ) (fault : Fault) → IsFirstFault bytes fault → (v : TheoryVerdict) → RefusesTheory (fault_place fault) (fault_words fault.kind) v → IsTheoryJudged bytes v
+unread_theory bytes fault first v h =
+    theory_refused bytes (fault_place fault) (fault_words fault.kind) (record { cause = reading fault.kind; fault = unread fault first refl refl; printed = refl }) v h
 
-pub theory_accepted : (bytes : List ℕ) (ruled : Ruled) → IsRuled bytes ruled → IsAccepted (theory_of ruled.program)
-theory_accepted bytes ruled h = subst IsAccepted h.theory h.lawful.accepted
+pub faulty_judged : (model : Model) (decls : List Decl) (place : Place) (cause : Cause) → IsFaultOf decls place cause → (v : Verdict) → Refuses place (cause_text cause) v → JudgesFile model decls v
+faulty_judged model decls place cause f v h bytes d =
+    refused_judged model bytes place (cause_text cause) (meaningless (record { cause = cause; fault = declared decls d f; printed = refl })) v h
 
-abbrev pub ruled_says : (bytes : List ℕ) (ruled : Ruled) → IsRuled bytes ruled → Says bytes ruled.program
-ruled_says bytes ruled h = record { decls = ruled.file.declarations.items; text = h.declared; named = h.named }
+pub faulty_theory : (decls : List Decl) (place : Place) (cause : Cause) → IsTheoryFault decls place cause → (v : TheoryVerdict) → RefusesTheory place (cause_text cause) v → JudgesTheory decls v
+faulty_theory decls place cause f v h bytes d =
+    theory_refused bytes place (cause_text cause) (record { cause = cause; fault = declared decls d f; printed = refl }) v h
 
-pub means_theory : (bytes : List ℕ) (ruled : Ruled) → IsRuled bytes ruled → MeansTheory bytes (length ruled.program.rules)
-means_theory bytes ruled h = record { program = ruled.program; says = ruled_says bytes ruled h; accepted = theory_accepted bytes ruled h; counted = refl }
+pub unbuilt_judged :
+    (decls : List Decl) (problem : Problem) (place : Place) → IsProblemOf decls problem → first_unbuilt decls ≡ Some place → (v : Verdict)
+    → Refuses place not_built v → JudgesFile problem.model decls v
+unbuilt_judged decls problem place means first v h bytes d =
+    refused_judged problem.model bytes place not_built (unbuilt (record { decls = decls; text = d; problem = problem; means = means; first = first }) refl) v h
 
--- problems
+-- theories
 
-pub lawful_sides : ProgramsAreWellFormed → SidesAreLawful → BindersAreHigh → (bytes : List ℕ) (ruled : Ruled) (left right : Process) → IsRuled bytes ruled → expanded ruled.program ≡ sides left right → AreLawfulSides ruled.program.signature left right
-lawful_sides formed lawful high bytes ruled left right h written =
-    let both = lawful ruled.program left right (formed ruled.file.declarations.items ruled.program h.named) written in
-    let binders = high ruled.program left right written in
-    record { left = both.0; right = both.1; left_binders = binders.0; right_binders = binders.1 }
-
-pub problem_lawful : (bytes : List ℕ) (ruled : Ruled) (left right : Process) → IsRuled bytes ruled → AreLawfulSides ruled.program.signature left right → IsLawful (ruled_problem ruled left right)
-problem_lawful bytes ruled left right h both = record { theory = h.lawful; left = both.left; right = both.right }
-
-pub problem_high : (ruled : Ruled) (left right : Process) → AreLawfulSides ruled.program.signature left right → HasHighBinders (ruled_problem ruled left right)
-problem_high ruled left right both = record { left = both.left_binders; right = both.right_binders }
+pub means_theory : (decls : List Decl) (checked : CheckedFile) → IsChecked decls checked → (count : ℕ) → count ≡ length checked.program.rules → JudgesTheory decls (theory.Accepted count)
+means_theory decls checked c count e bytes d = record {
+  program = checked.program;
+  says = record { decls = decls; text = d; named = c.named };
+  accepted = subst IsAccepted c.theory c.lawful.accepted;
+  counted = e;
+}
 
 -- a problem that is judged
 
-answered_over : (bytes : List ℕ) (ruled : Ruled) (l r : Process) → IsRuled bytes ruled → expanded ruled.program ≡ sides l r → first_unbuilt ruled.file.declarations.items ≡ None → (v : Verdict) → IsAnswered (ruled_problem ruled l r) v → IsJudged bytes v
-answered_over bytes ruled l r h written built v a = by_verdict v a
+pub answered_judged : (decls : List Decl) (problem : Problem) → IsProblemOf decls problem → first_unbuilt decls ≡ None → (v : Verdict) → IsAnswered problem v → JudgesFile problem.model decls v
+answered_judged decls problem p built v a bytes d = by_verdict v a
   where
-    means : Means bytes (ruled_problem ruled l r)
-    means = record { program = ruled.program; says = ruled_says bytes ruled h; signature = refl; theory = h.theory; accepted = h.lawful.accepted; written = written }
+    judged : MeansJudged problem.model bytes problem
+    judged = record {
+      means = record { decls = decls; text = d; problem_of = p };
+      in_model = refl;
+      built = record { decls = decls; text = d; built = built };
+    }
 
-    unused : IsBuilt bytes
-    unused = record { decls = ruled.file.declarations.items; text = h.declared; built = built }
-
-    by_verdict : (v : Verdict) → IsAnswered (ruled_problem ruled l r) v → IsJudged bytes v
-    by_verdict Equivalent a = record { problem = ruled_problem ruled l r; means = means; built = unused; equivalent = a }
-    by_verdict (NotEquivalent trace) a = record { problem = ruled_problem ruled l r; means = means; built = unused; attack = a }
+    by_verdict : (v : Verdict) → IsAnswered problem v → IsJudged problem.model bytes v
+    by_verdict Equivalent a = record { problem = problem; means = judged; equivalent = a }
+    by_verdict (NotEquivalent trace) a = record { problem = problem; means = judged; attack = a }
     by_verdict (Refused place cause) a = absurd a
-
-pub answered_judged :
-    (bytes : List ℕ) (ruled : Ruled) (l r : Process) (problem : Problem) → IsRuled bytes ruled → expanded ruled.program ≡ sides l r → first_unbuilt ruled.file.declarations.items ≡ None
-    → problem ≡ ruled_problem ruled l r → (v : Verdict) → IsAnswered problem v → IsJudged bytes v
-answered_judged bytes ruled l r problem h written built e v a = answered_over bytes ruled l r h written built v (subst (λ p. IsAnswered p v) e a)
-
--- without a rule it is the problem of outputs alone
-pub plain_ruled : (ruled : Ruled) (l r : Process) → ruled.theory ≡ theory_of ruled.program → IsPlainlyMeant ruled.program l r → IsPlain (ruled_problem ruled l r)
-plain_ruled ruled l r e meant =
-    let same : ruled.theory ≡ (problem_over ruled.program l r).theory = e ∙ meant.theory in
-    subst (λ (t : Theory). IsPlain (record { signature = ruled.program.signature; theory = t; left = l; right = r })) (sym same) meant.plain
 
 -- the channels of an attack are names
 
@@ -130,4 +111,5 @@ channels_named signature m j n (c ∷ cs) h =
 
 pub attack_named : TracesHaveLawfulLabels → (problem : Problem) (side : Side) (channels : List ℕ) → IsLeastAttack problem side channels → All (λ c. c < length problem.signature.names) channels
 attack_named labels problem side channels a =
-    channels_named problem.signature 0 1 (length a.attack.frame) channels (labels problem.signature problem.theory (side_of problem side) (word_of channels) a.attack.frame a.attack.trace)
+    channels_named problem.signature 0 1 (length a.attack.frame) channels
+    (labels problem.model problem.signature problem.theory (side_of problem side) (word_of channels) a.attack.frame a.attack.trace)

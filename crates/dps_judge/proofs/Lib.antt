@@ -1,13 +1,11 @@
+pub mod Lines
 pub mod Rows
 pub mod Fitting
 pub mod PlainNames
 pub mod PlainBodies
 pub mod PlainProcesses
 pub mod PlainPrograms
-pub mod PlainSides
 pub mod PlainTheories
-pub mod OneMeaning
-pub mod SomeMeaning
+pub mod PlainSides
 pub mod Answering
-pub mod Lines
-pub mod LawfulMeanings
+pub mod Verdicts

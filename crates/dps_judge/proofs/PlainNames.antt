@@ -18,7 +18,8 @@ use Rattle.dps_scopes.specs.declared.meaning.Meaning.{Meaning}
 use Rattle.dps_scopes.specs.declared.meaning.Meaning.TheVariants.{Local as a_local, Name as a_name, Function as a_function, Process as a_process, Projection as a_projection, Unknown as unknown}
 use Rattle.dps_scopes.specs.Body as body
 use Rattle.dps_scopes.specs.Outcome.{Outcome, done, faulty, and_then, fault_at}
-use Rattle.dps_scopes.specs.Scopes.{Locals, is_projection_word, are_projection_digits, begins_as_projection, projection_of, defined, named, function_or_named, declared_meaning, projection_or_declared, local_or_declared, local_named, meaning}
+use Rattle.dps_scopes.specs.Scopes.{Locals, is_projection_word, are_projection_digits, begins_as_projection, projection_of, defined}
+use Rattle.dps_scopes.specs.Scopes.{named, function_or_named, declared_meaning, projection_or_declared, local_or_declared, local_named, meaning}
 use Rattle.dps_scopes.specs.Terms.{is_kind, count_inner, without_arguments, function_of, identifier_as, tuple_of, term, terms, identifier}
 use Rattle.dps_names.specs.Program.{Written, Body, Bodies, nil, parallel, choice, copies, fresh, input, output, conditional, bind, call, bodies, Definition}
 use Rattle.dps_names.specs.Processes.{joined, called, call_as, channel, parallels, choices, process, grouped, repeated, restricted, sent, continued, is_number_of_copies, number_of}
@@ -36,7 +37,9 @@ Holds (faulty fault) P = Unit {0}
 pub record OnDone {S A : Type 0} (o : Outcome S A) (P : A → S → Type 0) : Type 0 where
   pub holds : Holds o P
 
-pub on_then : {S A B : Type 0} (o : Outcome S A) (next : A → S → Outcome S B) (P : A → S → Type 0) (Q : B → S → Type 0) → OnDone o P → ((a : A) (s : S) → P a s → OnDone (next a s) Q) → OnDone (and_then o next) Q
+pub on_then :
+    {S A B : Type 0} (o : Outcome S A) (next : A → S → Outcome S B) (P : A → S → Type 0) (Q : B → S → Type 0) → OnDone o P
+    → ((a : A) (s : S) → P a s → OnDone (next a s) Q) → OnDone (and_then o next) Q
 on_then (done a s) next P Q h k = k a s h.holds
 on_then (faulty fault) next P Q h k = record { holds = tt }
 
@@ -94,11 +97,15 @@ alone_keeps : (lexeme : Lexeme) (count : ℕ) (signature : Signature) (w : Writt
 alone_keeps lexeme zero signature w = record { holds = refl }
 alone_keeps lexeme (suc n) signature w = record { holds = tt }
 
-function_keeps : (lexeme : Lexeme) (b : Bool) (arguments : Outcome Signature (List Written)) (f : _) (signature : Signature) → OnDone arguments (Keeps signature) → OnDone (function_of lexeme b arguments f) (Keeps signature)
+function_keeps :
+    (lexeme : Lexeme) (b : Bool) (arguments : Outcome Signature (List Written)) (f : _) (signature : Signature) → OnDone arguments (Keeps signature)
+    → OnDone (function_of lexeme b arguments f) (Keeps signature)
 function_keeps lexeme true arguments f signature h = on_then arguments _ (Keeps signature) (Keeps signature) h (λ ws after e. record { holds = e })
 function_keeps lexeme false arguments f signature h = record { holds = tt }
 
-identified_keeps : (lexeme : Lexeme) (count : ℕ) (arguments : Signature → Outcome Signature (List Written)) (signature : Signature) (m : Meaning) → IsNoProjection m → OnDone (arguments signature) (Keeps signature) → OnDone (identifier_as lexeme count arguments signature m) (Keeps signature)
+identified_keeps :
+    (lexeme : Lexeme) (count : ℕ) (arguments : Signature → Outcome Signature (List Written)) (signature : Signature) (m : Meaning) → IsNoProjection m
+    → OnDone (arguments signature) (Keeps signature) → OnDone (identifier_as lexeme count arguments signature m) (Keeps signature)
 identified_keeps lexeme count arguments signature (a_local n) h k = alone_keeps lexeme count signature _
 identified_keeps lexeme count arguments signature (a_name n private) h k = alone_keeps lexeme count signature _
 identified_keeps lexeme count arguments signature (a_function f arity) h k = function_keeps lexeme _ (arguments signature) f signature k
@@ -115,7 +122,9 @@ bare_keeps lexeme signature (a_process n parameters) = record { holds = tt }
 bare_keeps lexeme signature (a_projection projection) = record { holds = tt }
 bare_keeps lexeme signature unknown = record { holds = tt }
 
-tuple_keeps : (count : ℕ) (members : Signature → Outcome Signature (List Written)) (signature : Signature) (lexeme : Lexeme) → leb count 1 ≡ true → OnDone (members signature) (Keeps signature) → OnDone (tuple_of count members signature lexeme) (Keeps signature)
+tuple_keeps :
+    (count : ℕ) (members : Signature → Outcome Signature (List Written)) (signature : Signature) (lexeme : Lexeme) → leb count 1 ≡ true
+    → OnDone (members signature) (Keeps signature) → OnDone (tuple_of count members signature lexeme) (Keeps signature)
 tuple_keeps count members signature lexeme few h =
     on_if (leb count 1) _ _ (Keeps signature)
     (λ e. on_then (members signature) _ (Keeps signature) (Keeps signature) h (λ ws after k. record { holds = k }))
@@ -148,7 +157,9 @@ unopened true true x e h = cc
 unopened true false x e h = refl
 unopened false b x e h = cc
 
-bracket_count : (l : Lexeme) (parts : Parts) → IsOf production.Term (token l parts) → is_kind kind.Identifier l ≡ false → opening production.Term (token l parts) ≡ None → leb (count_inner parts) 1 ≡ true
+bracket_count :
+    (l : Lexeme) (parts : Parts) → IsOf production.Term (token l parts) → is_kind kind.Identifier l ≡ false → opening production.Term (token l parts) ≡ None
+    → leb (count_inner parts) 1 ≡ true
 bracket_count l parts of other unopened_here =
     elim of.one [
       | inl e ↦
@@ -157,7 +168,8 @@ bracket_count l parts of other unopened_here =
           cc
       | inr h ↦ elim h [
         | inl e ↦
-            let f : Fits (sign_of kind.OpenParenthesis ∷ Inner production.Term ∷ More more.Terms ∷ sign_of kind.CloseParenthesis ∷ []) (token l parts) = fits (subst (λ i. Derives i (token l parts) of.after) e of.derived) in
+            let f : Fits (sign_of kind.OpenParenthesis ∷ Inner production.Term ∷ More more.Terms ∷ sign_of kind.CloseParenthesis ∷ []) (token l parts) = fits
+            (subst (λ i. Derives i (token l parts) of.after) e of.derived) in
             let open_kind : is_kind kind.OpenParenthesis l ≡ true = ap (sameb kinds kind.OpenParenthesis) (kind_is kind.OpenParenthesis l refl f.0) in
             row_count parts f.1 (unopened (is_kind kind.OpenParenthesis l) (has_comma parts) _ open_kind unopened_here)
         | inr k ↦ absurd k
@@ -201,7 +213,8 @@ module _ (definitions : List Definition) (scope : Locals) where
     term_keeps (within p inside parts) signature tree = absurd (term_begins p inside parts tree.of)
     term_keeps (token l parts) signature tree =
         on_if (is_kind kind.Identifier l) _ _ (Keeps signature)
-        (λ e. identified_keeps l (count_inner parts) (terms definitions scope parts) signature (meaning signature definitions scope l.text) (meaning_none signature definitions scope l.text (no_projection l e tree.clean.0)) (terms_keep parts signature (term_row (token l parts) tree)))
+        (λ e. identified_keeps l (count_inner parts) (terms definitions scope parts) signature (meaning signature definitions scope l.text)
+        (meaning_none signature definitions scope l.text (no_projection l e tree.clean.0)) (terms_keep parts signature (term_row (token l parts) tree)))
         (λ e. tuple_keeps (count_inner parts) (terms definitions scope parts) signature l (bracket_count l parts tree.of e tree.closed) (terms_keep parts signature (term_row (token l parts) tree)))
 
     pub terms_keep : (parts : Parts) (signature : Signature) → IsRow production.Term parts → OnDone (terms definitions scope parts signature) (Keeps signature)

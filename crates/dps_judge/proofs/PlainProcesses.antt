@@ -35,11 +35,15 @@ PlainlyAll signature ps after = EachIsPlain ps × (after ≡ signature)
 
 -- calls
 
-called_plain : (l : Lexeme) (b : Bool) (arguments : Outcome Signature (List Written)) (n : ℕ) (signature : Signature) → OnDone arguments (Keeps signature) → OnDone (called l b arguments n) (Plainly signature)
+called_plain :
+    (l : Lexeme) (b : Bool) (arguments : Outcome Signature (List Written)) (n : ℕ) (signature : Signature) → OnDone arguments (Keeps signature)
+    → OnDone (called l b arguments n) (Plainly signature)
 called_plain l true arguments n signature h = on_then arguments _ (Keeps signature) (Plainly signature) h (λ ws after e. record { holds = (tt, e) })
 called_plain l false arguments n signature h = record { holds = tt }
 
-call_plain : (l : Lexeme) (count : ℕ) (arguments : Outcome Signature (List Written)) (m : Meaning) (signature : Signature) → OnDone arguments (Keeps signature) → OnDone (call_as l count arguments m) (Plainly signature)
+call_plain :
+    (l : Lexeme) (count : ℕ) (arguments : Outcome Signature (List Written)) (m : Meaning) (signature : Signature) → OnDone arguments (Keeps signature)
+    → OnDone (call_as l count arguments m) (Plainly signature)
 call_plain l count arguments (a_process n parameters) signature h = called_plain l _ arguments n signature h
 call_plain l count arguments (a_local n) signature h = record { holds = tt }
 call_plain l count arguments (a_name n private) signature h = record { holds = tt }
@@ -63,7 +67,10 @@ data IsPre (first : Lexeme) (parts : Parts) : Type 0 where
   is_group : first.kind ≡ kind.OpenParenthesis → Fits (Inner production.Par ∷ sign_of kind.CloseParenthesis ∷ []) parts → IsPre first parts
   is_copies : first.kind ≡ kind.Bang → Fits (sign_of kind.Caret ∷ sign_of kind.Number ∷ Inner production.Pre ∷ []) parts → IsPre first parts
   is_new : first.kind ≡ kind.New → Fits (sign_of kind.Identifier ∷ sign_of kind.Semicolon ∷ Inner production.Pre ∷ []) parts → IsPre first parts
-  is_output : first.kind ≡ kind.Out → Fits (sign_of kind.OpenParenthesis ∷ sign_of kind.Identifier ∷ sign_of kind.Comma ∷ Inner production.Term ∷ sign_of kind.CloseParenthesis ∷ More more.Then ∷ []) parts → IsPre first parts
+  is_output :
+      first.kind ≡ kind.Out
+      → Fits (sign_of kind.OpenParenthesis ∷ sign_of kind.Identifier ∷ sign_of kind.Comma ∷ Inner production.Term ∷ sign_of kind.CloseParenthesis ∷ More more.Then ∷ []) parts
+      → IsPre first parts
   is_call : first.kind ≡ kind.Identifier → IsRow production.Term parts → IsPre first parts
 
 -- the token with another kind
@@ -93,19 +100,23 @@ pre_is first parts of c =
                 is_new (kind_is kind.New first refl f.0) f.1
             | inr h ↦ elim h [
               | inl e ↦
-                  let f : Fits (sign_of kind.In ∷ sign_of kind.OpenParenthesis ∷ sign_of kind.Identifier ∷ sign_of kind.Comma ∷ Inner production.Pattern ∷ sign_of kind.CloseParenthesis ∷ More more.Then ∷ []) (token first parts) = fits (at _ e) in
+                  let f : Fits (sign_of kind.In ∷ sign_of kind.OpenParenthesis ∷ sign_of kind.Identifier ∷ sign_of kind.Comma ∷ Inner production.Pattern ∷ sign_of kind.CloseParenthesis ∷ More
+                  more.Then ∷ []) (token first parts) = fits (at _ e) in
                   absurd (input_unbuilt (kind_is kind.In first refl f.0))
               | inr h ↦ elim h [
                 | inl e ↦
-                    let f : Fits (sign_of kind.Out ∷ sign_of kind.OpenParenthesis ∷ sign_of kind.Identifier ∷ sign_of kind.Comma ∷ Inner production.Term ∷ sign_of kind.CloseParenthesis ∷ More more.Then ∷ []) (token first parts) = fits (at _ e) in
+                    let f : Fits (sign_of kind.Out ∷ sign_of kind.OpenParenthesis ∷ sign_of kind.Identifier ∷ sign_of kind.Comma ∷ Inner production.Term ∷ sign_of kind.CloseParenthesis ∷ More
+                    more.Then ∷ []) (token first parts) = fits (at _ e) in
                     is_output (kind_is kind.Out first refl f.0) f.1
                 | inr h ↦ elim h [
                   | inl e ↦
-                      let f : Fits (sign_of kind.If ∷ Inner production.Term ∷ sign_of kind.Equals ∷ Inner production.Term ∷ sign_of kind.Then ∷ Inner production.Pre ∷ More more.Else ∷ []) (token first parts) = fits (at _ e) in
+                      let f : Fits (sign_of kind.If ∷ Inner production.Term ∷ sign_of kind.Equals ∷ Inner production.Term ∷ sign_of kind.Then ∷ Inner production.Pre ∷ More more.Else ∷ [])
+                      (token first parts) = fits (at _ e) in
                       absurd (test_unbuilt (kind_is kind.If first refl f.0))
                   | inr h ↦ elim h [
                     | inl e ↦
-                        let f : Fits (sign_of kind.Let ∷ Inner production.Pattern ∷ sign_of kind.Equals ∷ Inner production.Term ∷ sign_of kind.In ∷ Inner production.Pre ∷ More more.Else ∷ []) (token first parts) = fits (at _ e) in
+                        let f : Fits (sign_of kind.Let ∷ Inner production.Pattern ∷ sign_of kind.Equals ∷ Inner production.Term ∷ sign_of kind.In ∷ Inner production.Pre ∷ More more.Else ∷ [])
+                        (token first parts) = fits (at _ e) in
                         absurd (let_unbuilt (kind_is kind.Let first refl f.0))
                     | inr h ↦ elim h [
                       | inl e ↦
@@ -212,7 +223,9 @@ module _ (definitions : List Definition) where
         on_then (parallels definitions scope parts after) _ (PlainlyAll after) (PlainlyAll signature) (parallels_plain scope parts after r.1) (λ qs last k.
         record { holds = ((h.0, k.0), k.1 ∙ h.1) }))
 
-    choices_plain : (scope : Locals) (parts : Parts) (signature : Signature) → IsOf production.Sum parts → IsClean production.Sum parts → OnDone (choices definitions scope parts signature) (λ ps after. IsPlainBody (joined choice ps) × (after ≡ signature))
+    choices_plain :
+        (scope : Locals) (parts : Parts) (signature : Signature) → IsOf production.Sum parts → IsClean production.Sum parts
+        → OnDone (choices definitions scope parts signature) (λ ps after. IsPlainBody (joined choice ps) × (after ≡ signature))
     choices_plain scope none signature of c = record { holds = (tt, refl) }
     choices_plain scope (token l parts) signature of c = absurd (sum_begins l parts of)
     choices_plain scope (within p inside parts) signature of c =
@@ -221,7 +234,9 @@ module _ (definitions : List Definition) where
         on_then (choices definitions scope parts after) _ (OneAtMost after) _ (choices_none definitions scope parts after a.alone) (λ qs last k.
         record { holds = (one_joined q qs h.0 k.0, k.1 ∙ h.1) }))
 
-    process_plain : (scope : Locals) (parts : Parts) (signature : Signature) → IsOf production.Pre parts → IsClean production.Pre parts → OnDone (process definitions scope parts signature) (Plainly signature)
+    process_plain :
+        (scope : Locals) (parts : Parts) (signature : Signature) → IsOf production.Pre parts → IsClean production.Pre parts
+        → OnDone (process definitions scope parts signature) (Plainly signature)
     process_plain scope none signature of c = record { holds = (tt, refl) }
     process_plain scope (within p inside parts) signature of c = record { holds = (tt, refl) }
     process_plain scope (token first parts) signature of c =
@@ -231,10 +246,14 @@ module _ (definitions : List Definition) where
           | is_copies e f ↦ subst (IsProcessPlain scope parts signature first) (sym e) (repeated_plain scope parts signature f c.1)
           | is_new e f ↦ subst (IsProcessPlain scope parts signature first) (sym e) (restricted_plain scope parts signature f c.1)
           | is_output e f ↦ subst (IsProcessPlain scope parts signature first) (sym e) (sent_plain scope parts signature f c.1)
-          | is_call e r ↦ subst (IsProcessPlain scope parts signature first) (sym e) (call_plain (of_kind first kind.Identifier) (count_inner parts) (terms definitions scope parts signature) (meaning signature definitions scope first.text) signature (terms_keep definitions scope parts signature r))
+          | is_call e r ↦ subst (IsProcessPlain scope parts signature first) (sym e)
+              (call_plain (of_kind first kind.Identifier) (count_inner parts) (terms definitions scope parts signature) (meaning signature definitions scope first.text) signature
+              (terms_keep definitions scope parts signature r))
         ]
 
-    grouped_plain : (scope : Locals) (parts : Parts) (signature : Signature) → Fits (Inner production.Par ∷ sign_of kind.CloseParenthesis ∷ []) parts → IsClean production.Pre parts → OnDone (grouped definitions scope parts signature) (Plainly signature)
+    grouped_plain :
+        (scope : Locals) (parts : Parts) (signature : Signature) → Fits (Inner production.Par ∷ sign_of kind.CloseParenthesis ∷ []) parts
+        → IsClean production.Pre parts → OnDone (grouped definitions scope parts signature) (Plainly signature)
     grouped_plain scope none signature f c = record { holds = (tt, refl) }
     grouped_plain scope (token l parts) signature f c = record { holds = (tt, refl) }
     grouped_plain scope (within p inside parts) signature f c =
@@ -242,19 +261,31 @@ module _ (definitions : List Definition) where
         (parallels_plain scope inside signature (par_row inside f.1 (subst (λ x. IsClean x inside) f.0 c.1)))
         (λ ps after h. record { holds = (joined_plain ps h.0, h.1) })
 
-    repeated_plain : (scope : Locals) (parts : Parts) (signature : Signature) → Fits (sign_of kind.Caret ∷ sign_of kind.Number ∷ Inner production.Pre ∷ []) parts → IsClean production.Pre parts → OnDone (repeated definitions scope parts signature) (Plainly signature)
+    repeated_plain :
+        (scope : Locals) (parts : Parts) (signature : Signature) → Fits (sign_of kind.Caret ∷ sign_of kind.Number ∷ Inner production.Pre ∷ []) parts
+        → IsClean production.Pre parts → OnDone (repeated definitions scope parts signature) (Plainly signature)
     repeated_plain scope (token caret (token number (within p inside parts))) signature f c =
         on_if (is_number_of_copies number) _ _ (Plainly signature)
-        (λ e. on_then (process definitions scope inside signature) _ (Plainly signature) (Plainly signature) (process_plain scope inside signature f.1.1.1 (as_pre p inside f.1.1.0 c.1.1.1)) (λ q after h. record { holds = h }))
+        (λ e. on_then (process definitions scope inside signature) _ (Plainly signature) (Plainly signature) (process_plain scope inside signature f.1.1.1 (as_pre p inside f.1.1.0 c.1.1.1))
+        (λ q after h. record { holds = h }))
         (λ e. record { holds = tt })
     repeated_plain scope _ signature f c = record { holds = (tt, refl) }
 
-    restricted_plain : (scope : Locals) (parts : Parts) (signature : Signature) → Fits (sign_of kind.Identifier ∷ sign_of kind.Semicolon ∷ Inner production.Pre ∷ []) parts → IsClean production.Pre parts → OnDone (restricted definitions scope parts signature) (Plainly signature)
+    restricted_plain :
+        (scope : Locals) (parts : Parts) (signature : Signature) → Fits (sign_of kind.Identifier ∷ sign_of kind.Semicolon ∷ Inner production.Pre ∷ []) parts
+        → IsClean production.Pre parts → OnDone (restricted definitions scope parts signature) (Plainly signature)
     restricted_plain scope (token name (token semicolon (within p inside parts))) signature f c =
-        on_then (process definitions ((name.text ∷ []) ∷ scope) inside signature) _ (Plainly signature) (Plainly signature) (process_plain ((name.text ∷ []) ∷ scope) inside signature f.1.1.1 (as_pre p inside f.1.1.0 c.1.1.1)) (λ q after h. record { holds = h })
+        on_then (process definitions ((name.text ∷ []) ∷ scope) inside signature) _ (Plainly signature) (Plainly signature)
+        (process_plain ((name.text ∷ []) ∷ scope) inside signature f.1.1.1 (as_pre p inside f.1.1.0 c.1.1.1)) (λ q after h. record {
+          holds =
+              h;
+        })
     restricted_plain scope _ signature f c = record { holds = (tt, refl) }
 
-    sent_plain : (scope : Locals) (parts : Parts) (signature : Signature) → Fits (sign_of kind.OpenParenthesis ∷ sign_of kind.Identifier ∷ sign_of kind.Comma ∷ Inner production.Term ∷ sign_of kind.CloseParenthesis ∷ More more.Then ∷ []) parts → IsClean production.Pre parts → OnDone (sent definitions scope parts signature) (Plainly signature)
+    sent_plain :
+        (scope : Locals) (parts : Parts) (signature : Signature)
+        → Fits (sign_of kind.OpenParenthesis ∷ sign_of kind.Identifier ∷ sign_of kind.Comma ∷ Inner production.Term ∷ sign_of kind.CloseParenthesis ∷ More more.Then ∷ []) parts
+        → IsClean production.Pre parts → OnDone (sent definitions scope parts signature) (Plainly signature)
     sent_plain scope (token bracket (token name (token comma (within p inside (token close parts))))) signature f c =
         let g = f.1.1.1 in
         let k = c.1.1.1 in
@@ -264,6 +295,8 @@ module _ (definitions : List Definition) where
         record { holds = (h.0, h.1 ∙ (e2 ∙ e)) })))
     sent_plain scope _ signature f c = record { holds = (tt, refl) }
 
-    continued_plain : (scope : Locals) (parts : Parts) (signature : Signature) → FollowsOutput parts → IsClean production.Pre parts → OnDone (continued definitions scope parts signature) (Plainly signature)
+    continued_plain :
+        (scope : Locals) (parts : Parts) (signature : Signature) → FollowsOutput parts → IsClean production.Pre parts
+        → OnDone (continued definitions scope parts signature) (Plainly signature)
     continued_plain scope (token l (within p inside parts)) signature f c = process_plain scope inside signature f.1 (as_pre p inside f.0 c.1.1)
     continued_plain scope _ signature f c = record { holds = (tt, refl) }

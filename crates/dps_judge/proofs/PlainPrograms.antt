@@ -25,7 +25,8 @@ use Rattle.dps_scopes.specs.Terms.{is_kind}
 use Rattle.dps_names.specs.Program.{Program, Definition, WrittenRule, Body, parallel, empty}
 use Rattle.dps_names.specs.declared.program.Side.{Side}
 use Rattle.dps_names.specs.Processes.{number_of, is_among, joined, parallels}
-use Rattle.dps_names.specs.Declarations.{with_signature, with_definition, with_sides, declaring, declare_names, is_marked_private, names, with_constructor, functions, rules, parameters, in_signature, body_of, define_with, define, side, query, declaration, declarations, names_of}
+use Rattle.dps_names.specs.Declarations.{with_signature, with_definition, with_sides, declaring, declare_names, is_marked_private, names, with_constructor, functions, rules}
+use Rattle.dps_names.specs.Declarations.{parameters, in_signature, body_of, define_with, define, side, query, declaration, declarations, names_of}
 use Rattle.dps_judge.specs.Unbuilt.{is_unbuilt_word, is_unbuilt, opening, first_unbuilt}
 use Rattle.dps_judge.proofs.Rows.{IsClean, clean, IsOf, IsTree, IsRow, holds, row}
 use Rattle.dps_judge.proofs.Fitting.{Fits, fits}
@@ -128,7 +129,13 @@ constructor_plain name arity program free plain =
     on_if (leb (number_of arity) most_arguments) _ _ Leaves
     (λ e. record {
       holds = record {
-        symbols = All-push IsPlainSymbol program.signature.symbols _ plain.symbols (record { kind = refl; word = is_word_of (begins_as_projection name.text) (is_word name.text) (leb (length name.text) 64) (not (is_handle name.text)) free });
+        symbols =
+            All-push
+            IsPlainSymbol
+            program.signature.symbols
+            _
+            plain.symbols
+            (record { kind = refl; word = is_word_of (begins_as_projection name.text) (is_word name.text) (leb (length name.text) 64) (not (is_handle name.text)) free });
         names = plain.names;
         rules = plain.rules;
         definitions = plain.definitions;
@@ -163,7 +170,9 @@ body_plain parts scope program r =
     (in_signature_plain program _ (parallels_plain program.definitions scope parts program.signature r))
     (λ ps after h. record { holds = (joined_plain ps h.0, h.1) })
 
-define_with_plain : (name : Lexeme) (texts : List (List ℕ)) (inside : Parts) (program : Program) → IsRow production.Sum inside → IsPlainProgram program → OnDone (define_with name texts inside program) Leaves
+define_with_plain :
+    (name : Lexeme) (texts : List (List ℕ)) (inside : Parts) (program : Program) → IsRow production.Sum inside → IsPlainProgram program
+    → OnDone (define_with name texts inside program) Leaves
 define_with_plain name texts inside program r plain =
     on_then (body_of inside (texts ∷ []) program) _ (Bodily program) Leaves (body_plain inside (texts ∷ []) program r) (λ body after h.
     let same = subst IsPlainProgram (sym h.1) plain in
@@ -205,7 +214,9 @@ parameters_fit (left e d) = inl (fits d)
 parameters_fit (taken d) = inr (fits d)
 
 abbrev Query_symbols : List GrammarSymbol
-Query_symbols = sign_of kind.Query ∷ sign_of kind.TraceEquiv ∷ sign_of kind.OpenParenthesis ∷ Inner production.Par ∷ sign_of kind.Comma ∷ Inner production.Par ∷ sign_of kind.CloseParenthesis ∷ sign_of kind.Dot ∷ []
+Query_symbols =
+    sign_of kind.Query ∷ sign_of kind.TraceEquiv ∷ sign_of kind.OpenParenthesis ∷ Inner production.Par ∷ sign_of kind.Comma ∷ Inner production.Par ∷ sign_of kind.CloseParenthesis ∷ sign_of
+    kind.Dot ∷ []
 
 query_fits : (parts : Parts) → IsOf production.Query parts → Fits Query_symbols parts
 query_fits parts of =
@@ -258,7 +269,9 @@ sum_row : (p : Production) (parts : Parts) → p ≡ production.Par → IsOf pro
 sum_row p parts e of c = par_row parts of (subst (λ x. IsClean x parts) e c)
 
 -- behind parameters
-first_row : (word name bracket close equals : Lexeme) (p q : Production) (ids inside parts : Parts) → IsDeclaration (token word (token name (token bracket (within p ids (token close (token equals (within q inside parts))))))) → IsRow production.Sum inside
+first_row :
+    (word name bracket close equals : Lexeme) (p q : Production) (ids inside parts : Parts)
+    → IsDeclaration (token word (token name (token bracket (within p ids (token close (token equals (within q inside parts))))))) → IsRow production.Sum inside
 first_row word name bracket close equals p q ids inside parts (as_query of c) = absurd (query_fits _ of).1.1.1.2.1
 first_row word name bracket close equals p q ids inside parts (as_decl of c) =
     elim (long word name _ of) [
@@ -296,7 +309,10 @@ define_plain _ program d plain = record { holds = plain }
 side_plain : (parts : Parts) (program : Program) → IsRow production.Sum parts → OnDone (side parts program) (λ s after. IsPlainBody s.body × (after ≡ program))
 side_plain parts program r = on_then (body_of parts [] program) _ (Bodily program) _ (body_plain parts [] program r) (λ body after h. record { holds = h })
 
-query_rows : (word relation bracket comma : Lexeme) (p q : Production) (first second parts : Parts) → IsDeclaration (token word (token relation (token bracket (within p first (token comma (within q second parts)))))) → IsRow production.Sum first × IsRow production.Sum second
+query_rows :
+    (word relation bracket comma : Lexeme) (p q : Production) (first second parts : Parts)
+    → IsDeclaration (token word (token relation (token bracket (within p first (token comma (within q second parts))))))
+    → IsRow production.Sum first × IsRow production.Sum second
 query_rows word relation bracket comma p q first second parts (as_query of c) =
     let f = query_fits _ of in
     (sum_row p first f.1.1.1.0 f.1.1.1.1 c.1.1.1.1, sum_row q second f.1.1.1.2.1.0 f.1.1.1.2.1.1 c.1.1.1.2.1.1)
@@ -334,11 +350,13 @@ no_reduc none e d = cc
 no_reduc (within p inside parts) e d = cc
 no_reduc (token l parts) e (as_decl of c) =
     let k : l.kind ≡ kind.Reduc = cc in
-    let h : is_unbuilt production.Decl (record { kind = kind.Reduc; text = l.text; line = l.line; column = l.column }) ≡ false = subst (λ x. is_unbuilt production.Decl (record { kind = x; text = l.text; line = l.line; column = l.column }) ≡ false) k c.0 in
+    let h : is_unbuilt production.Decl (record { kind = kind.Reduc; text = l.text; line = l.line; column = l.column }) ≡ false = subst
+    (λ x. is_unbuilt production.Decl (record { kind = x; text = l.text; line = l.line; column = l.column }) ≡ false) k c.0 in
     cc
 no_reduc (token l parts) e (as_query of c) =
     let k : l.kind ≡ kind.Reduc = cc in
-    let h : is_unbuilt production.Query (record { kind = kind.Reduc; text = l.text; line = l.line; column = l.column }) ≡ false = subst (λ x. is_unbuilt production.Query (record { kind = x; text = l.text; line = l.line; column = l.column }) ≡ false) k c.0 in
+    let h : is_unbuilt production.Query (record { kind = kind.Reduc; text = l.text; line = l.line; column = l.column }) ≡ false = subst
+    (λ x. is_unbuilt production.Query (record { kind = x; text = l.text; line = l.line; column = l.column }) ≡ false) k c.0 in
     cc
 
 -- what is not judged yet is the same in declarations and in the query
@@ -369,18 +387,23 @@ all_declarations : {parts : Parts} {after : List Word} → Derives (More more.De
 all_declarations (left e (inner {parts} {after} items one d nothing)) = (inr (refl, record { items = items; one = one; after = words parts ++ after; derived = d }), tt)
 all_declarations (taken (inner {parts} {after} items one d rest)) = (inl (refl, record { items = items; one = one; after = words parts ++ after; derived = d }), all_declarations rest)
 
-one_declaration : (p : Production) (parts : Parts) → ((p ≡ production.Decl) × IsOf production.Decl parts) ⊎ ((p ≡ production.Query) × IsOf production.Query parts) → IsClean p parts → IsDeclaration parts
+one_declaration :
+    (p : Production) (parts : Parts) → ((p ≡ production.Decl) × IsOf production.Decl parts) ⊎ ((p ≡ production.Query) × IsOf production.Query parts) → IsClean p parts → IsDeclaration parts
 one_declaration p parts (inl h) c = as_decl h.1 (subst (λ x. IsClean x parts) h.0 c)
 one_declaration p parts (inr h) c = as_query h.1 (subst (λ x. IsClean x parts) h.0 c)
 
-declarations_plain : (decls : List Decl) (program : Program) → AreDeclarations (trees_of decls) → IsClean production.Decl (trees_of decls) → All HasItsKeyword decls → IsPlainProgram program → OnDone (declarations decls program) Leaves
+declarations_plain :
+    (decls : List Decl) (program : Program) → AreDeclarations (trees_of decls) → IsClean production.Decl (trees_of decls) → All HasItsKeyword decls
+    → IsPlainProgram program → OnDone (declarations decls program) Leaves
 declarations_plain [] program f c k plain = record { holds = plain }
 declarations_plain (decl ∷ decls) program f c k plain =
     on_then (declaration decl program) _ Leaves Leaves
     (declaration_plain decl program (All-head HasItsKeyword decl decls k) (one_declaration (tree_of decl).production (tree_of decl).parts f.0 c.1) plain)
     (λ u after h. declarations_plain decls after f.1 c.2 (All-tail HasItsKeyword decl decls k) h)
 
-pub file_plain : (decls : List Decl) (program : Program) → Derives (More more.Declarations ∷ Inner production.Query ∷ []) (trees_of decls) [] → All HasItsKeyword decls → first_unbuilt decls ≡ None → names_of decls ≡ done tt program → IsPlainProgram program
+pub file_plain :
+    (decls : List Decl) (program : Program) → Derives (More more.Declarations ∷ Inner production.Query ∷ []) (trees_of decls) [] → All HasItsKeyword decls
+    → first_unbuilt decls ≡ None → names_of decls ≡ done tt program → IsPlainProgram program
 file_plain decls program d k e named =
     let h : OnDone (names_of decls) Leaves = declarations_plain decls empty (all_declarations d) (clean production.Decl (trees_of decls) e) k empty_plain in
     let g : OnDone (done tt program) Leaves = subst (λ o. OnDone o Leaves) named h in

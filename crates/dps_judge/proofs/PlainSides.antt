@@ -1,22 +1,27 @@
 -- Processes of `0`, `|`, copies, `new`, outputs and calls, written out: `0`, `|` and outputs alone.
-use Rattle.std.proofs.Common.{◌≡◌, ℕ, zero, suc, ◌-◌, ◌<◌, Bool, true, false, if◌then◌else◌, List, [], ◌∷◌, ◌++◌, Option, Some, None, length, slice_get, unwrap_or, refl, sym, ap, subst, arith}
+use Rattle.std.proofs.Common.{◌≡◌, ℕ, zero, suc, ◌-◌, ◌<◌, Bool, true, false, if◌then◌else◌, List, [], ◌∷◌, ◌++◌, Option, Some, None, length, slice_get, unwrap_or, refl, sym, ap, subst, ◌∙◌, arith}
 use Rattle.std.specs.List.{All}
-use Rattle.std.proofs.lemmas.List.Elements.{All-head, All-tail}
+use Rattle.std.proofs.lemmas.List.Elements.{All-head, All-tail, All-weaker}
 use Rattle.dps_lex.specs.declared.vocabulary.Place.{Place}
+use Rattle.dps_terms.specs.declared.SymKind.TheVariants.{Constructor}
 use Rattle.dps_terms.specs.Signature.{Name, Signature, IsPublic}
 use Rattle.dps_process.specs.Process as process
 use Rattle.dps_process.specs.Process.{Process, EachChannel}
-use Rattle.dps_tree.specs.Plain.{HasOutputsAlone}
+use Rattle.dps_process.specs.Problem.{Problem, IsLawfulSide, IsLawful}
+use Rattle.dps_tree.specs.Plain.{HasOutputsAlone, IsPlain}
 use Rattle.dps_scopes.specs.Body.{none, more}
 use Rattle.dps_names.specs.Program.{Program, Definition, Body, Bodies, nil, parallel, choice, copies, fresh, input, output, conditional, bind, call}
 use Rattle.dps_elab.specs.declared.found.PrivateUse.{PrivateUse}
 use Rattle.dps_elab.specs.declared.found.ChannelUse.{ChannelUse}
 use Rattle.dps_elab.specs.declared.fault.ExpansionCause.{ExpansionCause}
-use Rattle.dps_elab.specs.Expansion.{Value, Expansion, Expanding, nothing, and_copies, made, one_name, values_of, expand, chain, chain_behind, meanings, private_names, expansion, left_expansion, right_expansion}
+use Rattle.dps_elab.specs.Expansion.{Value, Expansion, Expanding, nothing, and_copies, made, one_name, values_of}
+use Rattle.dps_elab.specs.Expansion.{expand, chain, chain_behind, meanings, private_names, expansion, left_expansion, right_expansion}
 use Rattle.dps_elab.specs.Limits.{is_too_large}
 use Rattle.dps_elab.specs.Meaning.{Expanded, sides, refused, first_such, is_no_channel, is_channel, checked_privates, checked_channels, expanded}
 use Rattle.dps_judge.proofs.PlainBodies.{IsPlainBody, ArePlainBodies}
-use Rattle.dps_judge.proofs.PlainPrograms.{HasPlainBody, IsPublicName, IsPlainProgram}
+use Rattle.dps_judge.proofs.PlainPrograms.{HasPlainBody, IsPublicName, IsPlainSymbol, IsPlainProgram}
+use Rattle.dps_judge.proofs.PlainTheories.{unruled}
+use Rattle.dps_rules.specs.Rules.{theory_of}
 
 -- `0`, `|` and outputs
 abbrev HasOutputs : Process → Type 0
@@ -69,15 +74,21 @@ module _ (privates : List ℕ) (definitions : List (List Value → Expanding)) (
     chain_puts_out none locals h next = tt
     chain_puts_out (more p ps) locals h next = behind_puts_out ps (expand privates definitions p locals) locals (record { alone = λ after. expand_puts_out p locals h.0 after }) h.1 next
 
-    behind_puts_out : (ps : Bodies) (e : Expanding) (locals : List Value) → Outputs e → ArePlainBodies ps → (next : _) → HasOutputs (chain_behind privates definitions process.parallel e ps locals next).process
+    behind_puts_out :
+        (ps : Bodies) (e : Expanding) (locals : List Value) → Outputs e → ArePlainBodies ps → (next : _)
+        → HasOutputs (chain_behind privates definitions process.parallel e ps locals next).process
     behind_puts_out none e locals k h next = k.alone next
-    behind_puts_out (more q qs) e locals k h next = (k.alone next, behind_puts_out qs (expand privates definitions q locals) locals (record { alone = λ after. expand_puts_out q locals h.0 after }) h.1 (e next).next)
+    behind_puts_out (more q qs) e locals k h next =
+        (k.alone next, behind_puts_out qs (expand privates definitions q locals) locals (record { alone = λ after. expand_puts_out q locals h.0 after }) h.1 (e next).next)
 
-meanings_put_out : (privates : List ℕ) (definitions : List Definition) (earlier : List (List Value → Expanding)) → AllPutOut earlier → All HasPlainBody definitions → AllPutOut (meanings privates earlier definitions)
+meanings_put_out :
+    (privates : List ℕ) (definitions : List Definition) (earlier : List (List Value → Expanding)) → AllPutOut earlier → All HasPlainBody definitions
+    → AllPutOut (meanings privates earlier definitions)
 meanings_put_out privates [] earlier all h = all
 meanings_put_out privates (d ∷ definitions) earlier all h =
     meanings_put_out privates definitions (earlier ++ (λ arguments. expand privates earlier d.body arguments) ∷ [])
-    (put_out_more earlier (λ arguments. expand privates earlier d.body arguments) all (λ arguments. record { alone = λ next. expand_puts_out privates earlier all d.body arguments (All-head HasPlainBody d definitions h) next }))
+    (put_out_more earlier (λ arguments. expand privates earlier d.body arguments) all
+    (λ arguments. record { alone = λ next. expand_puts_out privates earlier all d.body arguments (All-head HasPlainBody d definitions h) next }))
     (All-tail HasPlainBody d definitions h)
 
 side_puts_out : (program : Program) (p : Body) → IsPlainProgram program → IsPlainBody p → (next : _) → HasOutputs (expansion program p next).process
@@ -136,4 +147,23 @@ sides_put_out program x y plain e c d =
     record {
       first = outputs_alone program.signature x plain.names c (subst HasOutputs s.0 (side_puts_out program program.left.body plain plain.left _));
       second = outputs_alone program.signature y plain.names d (subst HasOutputs s.1 (side_puts_out program program.right.body plain plain.right _));
+    }
+
+-- so the problem is one of outputs alone
+pub plain_problem :
+    (problem : Problem) (program : Program) → IsPlainProgram program → problem.signature ≡ program.signature → problem.theory ≡ theory_of program
+    → expanded program ≡ sides problem.left problem.right → IsLawful problem → IsPlain problem
+plain_problem problem program plain signature theory e lawful =
+    let channels : Process → Type 0 = λ p. EachChannel (λ c. c < length program.signature.names) p in
+    let same : (p : Process) → IsLawfulSide problem.signature p → channels p = λ p l. subst (λ (s : Signature). EachChannel (λ c. c < length s.names) p) signature l.channels in
+    let outputs = sides_put_out program problem.left problem.right plain e (same problem.left lawful.left) (same problem.right lawful.right) in
+    record {
+      constructors =
+          subst
+          (λ (s : Signature). All (λ f. f.kind ≡ Constructor) s.symbols)
+          (sym signature)
+          (All-weaker IsPlainSymbol (λ f. f.kind ≡ Constructor) (λ f h. h.kind) program.signature.symbols plain.symbols);
+      no_rules = ap (λ t. t.rules) (theory ∙ unruled program plain);
+      left = subst (λ (s : Signature). HasOutputsAlone s problem.left) (sym signature) outputs.first;
+      right = subst (λ (s : Signature). HasOutputsAlone s problem.right) (sym signature) outputs.second;
     }

@@ -13,7 +13,7 @@ use Rattle.dps_scopes.specs.Scopes.{is_word}
 use Rattle.dps_names.specs.Program.{Program}
 use Rattle.std.specs.List.{flat_map, range_with_len}
 use Rattle.dps_theory.specs.Projections.{rules_for, projections_of, projections}
-use Rattle.dps_elab.specs.Rules.{theory_of}
+use Rattle.dps_rules.specs.Rules.{theory_of}
 use Rattle.dps_judge.proofs.PlainPrograms.{IsPlainSymbol, IsPlainProgram}
 
 position_none : {X : Type 0} (p : X → Bool) (xs : List X) → All (λ x. p x ≡ false) xs → position p xs ≡ None
@@ -45,7 +45,9 @@ no_tuple n (b ∷ bs) w = by_case (eqb 40 b) refl
 
 untupled : (signature : Signature) (n : ℕ) → All IsPlainSymbol signature.symbols → projections_of signature n ≡ []
 untupled signature n all =
-    ap (rules_for signature n) (position_none (λ s. bytes_eq (tuple_name n) s.name) signature.symbols (All-weaker IsPlainSymbol (λ s. bytes_eq (tuple_name n) s.name ≡ false) (λ s h. no_tuple n s.name h.word) signature.symbols all))
+    ap (rules_for signature n)
+    (position_none (λ s. bytes_eq (tuple_name n) s.name) signature.symbols
+    (All-weaker IsPlainSymbol (λ s. bytes_eq (tuple_name n) s.name ≡ false) (λ s h. no_tuple n s.name h.word) signature.symbols all))
 
 nothing_of_all : (f : ℕ → List Rule) (xs : List ℕ) → ((n : ℕ) → f n ≡ []) → flat_map f xs ≡ []
 nothing_of_all f [] e = refl
@@ -56,5 +58,6 @@ no_projections signature all = nothing_of_all (projections_of signature) (range_
 
 pub unruled : (program : Program) → IsPlainProgram program → theory_of program ≡ record { shapes = shapes program.signature; rules = [] }
 unruled program plain =
-    let rules : projections program.signature ++ map (λ r. r.rule) program.rules ≡ [] = ap (λ x. x ++ map (λ r. r.rule) program.rules) (no_projections program.signature plain.symbols) ∙ ap (λ x. map (λ r. r.rule) x) plain.rules in
+    let rules : projections program.signature ++ map (λ r. r.rule) program.rules ≡ [] = ap (λ x. x ++ map (λ r. r.rule) program.rules) (no_projections program.signature plain.symbols)
+    ∙ ap (λ x. map (λ r. r.rule) x) plain.rules in
     λ i. record { shapes = shapes program.signature; rules = rules i }

@@ -5,12 +5,13 @@ use Rattle.dps_branch.specs.declared.Side.{Side}
 use Rattle.dps_branch.specs.declared.Side.TheVariants.{Left, Right}
 use Rattle.dps_terms.specs.Signature.{Signature}
 use Rattle.dps_terms.specs.Text.{name_text, term_text}
-use Rattle.dps_process.specs.Steps.{Label, inputs, outputs}
+use Rattle.dps_process.specs.Steps.{Label, inputs, outputs, overhears}
 
--- `in(c,R)` and `out(c,axj)`
+-- `in(c,R)`, `out(c,axj)` and `eav(c,axj)`
 abbrev pub label_text : Signature → Label → List ℕ
 label_text signature (inputs c r) = codes "in(" ++ (name_text signature c ++ (codes "," ++ (term_text signature r ++ codes ")")))
 label_text signature (outputs c j) = codes "out(" ++ (name_text signature c ++ (codes ",ax" ++ (decimal j ++ codes ")")))
+label_text signature (overhears c j) = codes "eav(" ++ (name_text signature c ++ (codes ",ax" ++ (decimal j ++ codes ")")))
 
 -- a line for each label
 abbrev pub label_lines : Signature → List Label → List ℕ

@@ -2,17 +2,16 @@
 //! whether its rules are accepted.
 #![tactic(auto)]
 
-mod cause;
 mod judging;
 pub mod laws;
-mod ruling;
 #[cfg(test)]
 mod tests;
+mod theory;
 mod trace;
 mod unbuilt;
 mod verdict;
 
 pub use judging::judge;
-pub use ruling::judge_theory;
+pub use theory::judge_theory;
 pub use unbuilt::first_unbuilt;
 pub use verdict::{TheoryVerdict, Verdict};

@@ -1,9 +1,13 @@
 //! Frames that processes put out, compared under the theory of a text.
-use crate::ruling::{Ruled, Ruling, rule_text};
-use dps_elab::expand;
-use dps_process::{Process, ProcessView};
+ghost use Rattle.dps_meaning.specs.Meaning.{AreOfText};
+
+use dps_branch::Side;
+use dps_meaning::laws::read_files_are_declared;
+use dps_meaning::problem;
+use dps_process::{CommModel, Process, ProcessView};
 use dps_recipes::{Frame, evaluate};
 use dps_static::{Comparison, Test, compare};
+use dps_syntax::{File, read_file};
 use dps_terms::{NoMemory, Term};
 use dps_theory::Theory;
 use std::alloc::Global;
@@ -98,22 +102,32 @@ fn sides_compared(
     compared(alloc, theory, &first, &second)
 }
 
-fn ruled_compared(alloc: Global, ruled: &Ruled) -> Result<Answer, NoMemory> {
-    match expand(alloc, &ruled.program) {
-        Ok(sides) => sides_compared(alloc, &ruled.theory, &sides.left, &sides.right),
+/// How the frames compare that the sides of the file put out.
+fn file_compared(alloc: Global, file: &File) -> Result<Answer, NoMemory>
+    requires { AreOfText file.now.declarations.items }
+{
+    match problem(alloc, file, CommModel::Private) {
+        Ok(found) => sides_compared(
+            alloc,
+            found.theory(),
+            found.side(Side::Left),
+            found.side(Side::Right),
+        ),
         Err(_) => Ok(Answer::NoFrames),
     }
 }
 
 /// How the frames compare that these processes put out.
+#[tactic(auto, using(crate::proofs::Answering::of_text))]
 fn answer_to(alloc: Global, left: &str, right: &str) -> Result<Answer, NoMemory> {
     let text = format!(in alloc; "{DECLARATIONS}query trace_equiv({left}, {right}).")?;
     if text.len() > 10_000 {
         return Ok(Answer::NoFrames);
     }
-    match rule_text(alloc, text.as_bytes())? {
-        Ruling::Accepted(ruled) => ruled_compared(alloc, &ruled),
-        Ruling::Refused { .. } => Ok(Answer::NoFrames),
+    read_files_are_declared();
+    match read_file(alloc, text.as_bytes()) {
+        Ok(file) => file_compared(alloc, &file),
+        Err(_) => Ok(Answer::NoFrames),
     }
 }
 

@@ -3,21 +3,11 @@ ghost use Rattle.std.specs.Prelude.{◌≡◌, ◌≤◌, IsTrue};
 ghost use Rattle.dps_syntax.specs.Files.{tree_of as derivation_of, trees_of};
 ghost use Rattle.dps_syntax.specs.Parts.{parts_of};
 ghost use Rattle.dps_scopes.specs.Scopes.{begins_as_projection as begins};
-ghost use Rattle.dps_scopes.specs.Faults.{place_of as place};
 ghost use Rattle.dps_judge.specs.Unbuilt.{is_unbuilt_word as unbuilt_word, is_unbuilt as unbuilt, may_be_tuple as may_be, has_comma as comma_in, opening as opening_of, first_of as first_in_tree, first_among, first_unbuilt as first_place};
 
 use dps_lex::{Place, TokenKind};
+use dps_scopes::fault::place_of;
 use dps_syntax::{Decl, File, Leaf, Part, Production, Tree};
-
-/// Where the token stands.
-fn place_of(leaf: &Leaf) -> Place
-    ensures { result ≡ place leaf.now }
-{
-    Place {
-        line: leaf.line,
-        column: leaf.column,
-    }
-}
 
 fn begins_as_projection(text: &str) -> bool
     ensures { result ≡ begins text.now }

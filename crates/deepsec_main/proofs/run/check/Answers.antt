@@ -1,19 +1,17 @@
 use Rattle.std.proofs.Common.{subst}
 use Rattle.dps_judge.specs.declared.verdict.Verdict.{Verdict}
 use Rattle.dps_judge.specs.Judgement.{IsJudged}
-use Rattle.deepsec_main.specs.Words.{texts}
+use Rattle.deepsec_main.specs.Words.{texts, plan_model}
 use Rattle.deepsec_main.specs.Answers.{IsRead}
 use Rattle.deepsec_main.proofs.Reading.{check_refused}
 use Rattle.deepsec_main.proofs.run.check.Goals as goal
 
-pub returns : goal.returns
-returns g c =
-    let told = g.F.Files.told in
-    let taken = g.F.Files.taken in
+pub returns-clause-caused : goal.returns-clause-caused
+returns-clause-caused g c =
     let words = texts c.args.words.now in
-    let old = c.args.files.now in
-    let new = c.file_bytes.new.files in
+    let old = g.F.Files.state c.args.files.now in
+    let new = g.F.Files.state c.file_bytes.new.files in
     let text = c.deref.result.now in
-    let read : IsRead (told old) (taken new) words c.args.file text = rw c.deref.ensures.value c.in-Ok.ensures.read in
-    let means = subst (λ (v : Verdict). IsJudged text v) c.in-Ok-Refused.field-0-is c.in-Ok-Refused.ensures in
-    check_refused told taken g.F.Files.open_faults g.F.Files.read_faults words old new c.args.file text read c.in-Ok-Refused.place c.in-Ok-Refused.cause c.refused.result c.refused.ensures c.requires means
+    let read : IsRead old new words c.args.file text = rw c.deref.ensures.value c.in-Ok.ensures.read in
+    let means = subst (λ (v : Verdict). IsJudged (plan_model words) text v) c.in-Ok-Refused.field-0-is c.in-Ok-Refused.ensures in
+    check_refused old new words c.args.file text read c.in-Ok-Refused.place c.in-Ok-Refused.cause c.refused.result c.refused.ensures c.requires means

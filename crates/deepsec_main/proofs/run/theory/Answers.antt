@@ -6,14 +6,12 @@ use Rattle.deepsec_main.specs.Answers.{IsRead}
 use Rattle.deepsec_main.proofs.Reading.{theory_refused}
 use Rattle.deepsec_main.proofs.run.theory.Goals as goal
 
-pub returns : goal.returns
-returns g c =
-    let told = g.F.Files.told in
-    let taken = g.F.Files.taken in
+pub returns-clause-caused : goal.returns-clause-caused
+returns-clause-caused g c =
     let words = texts c.args.words.now in
-    let old = c.args.files.now in
-    let new = c.file_bytes.new.files in
+    let old = g.F.Files.state c.args.files.now in
+    let new = g.F.Files.state c.file_bytes.new.files in
     let text = c.deref.result.now in
-    let read : IsRead (told old) (taken new) words c.args.file text = rw c.deref.ensures.value c.in-Ok.ensures.read in
+    let read : IsRead old new words c.args.file text = rw c.deref.ensures.value c.in-Ok.ensures.read in
     let means = subst (λ (v : TheoryVerdict). IsTheoryJudged text v) c.in-Ok-Refused.field-0-is c.in-Ok-Refused.ensures in
-    theory_refused told taken g.F.Files.open_faults g.F.Files.read_faults words old new c.args.file text read c.in-Ok-Refused.place c.in-Ok-Refused.cause c.refused.result c.refused.ensures c.requires means
+    theory_refused old new words c.args.file text read c.in-Ok-Refused.place c.in-Ok-Refused.cause c.refused.result c.refused.ensures c.requires means

@@ -1,22 +1,28 @@
-use Rattle.std.proofs.Common.{refl}
-use Rattle.dps_judge.specs.Judgement.{IsJudged, untheoried}
-use Rattle.dps_judge.specs.Ruling.{JudgesRuled}
-use Rattle.dps_judge.proofs.Answering.{in_ok}
+use Rattle.dps_lex.specs.Spelling.{fault_words}
+use Rattle.dps_process.specs.Models.{model_of}
+use Rattle.dps_judge.specs.Judgement.{IsJudged, JudgesFile, Refuses}
+use Rattle.dps_judge.proofs.Answering.{of_text, in_ok, unread_judged}
 use Rattle.dps_judge.proofs.judging.judge.Goals as goal
 
-pub rule_text-requires : goal.rule_text-requires
-rule_text-requires c = c.requires
+pub read_file-requires : goal.read_file-requires
+read_file-requires c = c.requires
 
-pub judge_ruled-requires : goal.judge_ruled-requires
-judge_ruled-requires c = record { bytes = c.args.bytes.now; short = c.requires; is = rw c.in-Ok-Accepted.field-0-is at c.in-Ok-Accepted.ensures }
+pub judge_file-requires : goal.judge_file-requires
+judge_file-requires c = of_text c.read_files_are_declared.ensures c.args.bytes.now c.in-Ok.file c.requires c.in-Ok.ensures
 
-pub returns-in-Ok-Accepted : goal.returns-in-Ok-Accepted
-returns-in-Ok-Accepted c =
-    in_ok c.judge_ruled.result (JudgesRuled c.in-Ok-Accepted.ruled) (IsJudged c.args.bytes.now)
-    (λ v h. h c.args.bytes.now (rw c.in-Ok-Accepted.field-0-is at c.in-Ok-Accepted.ensures)) c.judge_ruled.ensures
+pub returns-in-Ok : goal.returns-in-Ok
+returns-in-Ok c =
+    let model = model_of c.args.model in
+    in_ok c.judge_file.result (JudgesFile model c.in-Ok.file.declarations.items) (IsJudged model c.args.bytes.now)
+    (λ v h. h c.args.bytes.now (c.read_files_are_declared.ensures c.args.bytes.now c.in-Ok.file c.in-Ok.ensures)) c.judge_file.ensures
 
-pub returns-in-Ok-Refused : goal.returns-in-Ok-Refused
-returns-in-Ok-Refused c = untheoried (rw c.in-Ok-Refused.field-0-is at c.in-Ok-Refused.ensures)
+pub returns-in-Err-Fault : goal.returns-in-Err-Fault
+returns-in-Err-Fault c =
+    let model = model_of c.args.model in
+    let fault = c.in-Err-Fault.fault in
+    in_ok c.unread.result (Refuses (record { line = fault.line; column = fault.column }) (fault_words fault.kind)) (IsJudged model c.args.bytes.now)
+    (λ v h. unread_judged model c.args.bytes.now fault (rw c.in-Err-Fault.field-0-is at c.in-Err-Fault.ensures) v h)
+    (rw c.in-Err-Fault.field-0-is at c.unread.ensures)
 
-pub returns-in-Err : goal.returns-in-Err
-returns-in-Err c = tt
+pub returns-in-Err-Memory : goal.returns-in-Err-Memory
+returns-in-Err-Memory c = tt

@@ -1,22 +1,12 @@
-use Rattle.std.proofs.Common.{refl}
+use Rattle.std.proofs.Common.{◌≡◌, refl, ap, ◌∙◌, subst, sym}
 use Rattle.std.proofs.lemmas.List.Elements.{All-weaker}
+use Rattle.dps_terms.specs.Signature.{Signature}
 use Rattle.dps_terms.specs.declared.SymKind.TheVariants.{Constructor}
-use Rattle.std.specs.Prelude.{◌≡◌}
-use Rattle.dps_judge.proofs.PlainPrograms.{IsPlainSymbol, file_plain}
-use Rattle.dps_judge.proofs.PlainSides.{sides_put_out}
-use Rattle.dps_judge.proofs.PlainTheories.{unruled}
+use Rattle.dps_tree.specs.Plain.{IsPlain}
+use Rattle.dps_judge.proofs.PlainPrograms.{file_plain}
+use Rattle.dps_judge.proofs.PlainSides.{plain_problem}
 use Rattle.dps_judge.proofs.laws.built_texts_are_plain.Goals as goal
 
 pub returns : goal.returns
-returns c = λ bytes program left right said built written lawful.
-    let plain = file_plain said.decls program said.text.tree.derived said.text.keywords built said.named in
-    let outputs = sides_put_out program left right plain written lawful.left.channels lawful.right.channels in
-    record {
-      plain = record {
-        constructors = All-weaker IsPlainSymbol (λ s. s.kind ≡ Constructor) (λ s h. h.kind) program.signature.symbols plain.symbols;
-        no_rules = refl;
-        left = outputs.first;
-        right = outputs.second;
-      };
-      theory = unruled program plain;
-    }
+returns c = λ bytes decls problem text built means lawful.
+    plain_problem problem means.program (file_plain decls means.program text.tree.derived text.keywords built means.named) means.signature means.theory means.written lawful

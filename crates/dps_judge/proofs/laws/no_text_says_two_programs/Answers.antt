@@ -1,5 +1,0 @@
-use Rattle.dps_judge.proofs.OneMeaning.{one_program}
-use Rattle.dps_judge.proofs.laws.no_text_says_two_programs.Goals as goal
-
-pub returns : goal.returns
-returns c = one_program c.no_text_has_two_readings.ensures c.no_tokens_have_two_trees.ensures

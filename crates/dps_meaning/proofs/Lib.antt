@@ -1,0 +1,5 @@
+pub mod Answering
+pub mod OneMeaning
+pub mod OneFault
+pub mod LawfulMeanings
+pub mod SomeMeaning

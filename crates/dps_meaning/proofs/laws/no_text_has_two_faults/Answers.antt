@@ -1,0 +1,7 @@
+use Rattle.dps_meaning.proofs.OneFault.{one_fault_of_text}
+use Rattle.dps_meaning.proofs.laws.no_text_has_two_faults.Goals as goal
+
+pub returns : goal.returns
+returns c =
+    one_fault_of_text c.no_text_has_two_files.ensures c.no_text_has_two_faults.ensures c.no_text_is_file_and_has_fault.ensures c.flawed_programs_are_not_accepted.ensures
+    c.no_program_has_two_flaws.ensures

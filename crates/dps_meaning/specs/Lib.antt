@@ -1,0 +1,5 @@
+pub mod Causes
+pub mod Meaning
+pub mod Faults
+pub mod Refusals
+pub mod Laws
