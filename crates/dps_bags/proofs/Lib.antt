@@ -1,0 +1,5 @@
+pub mod Drawing
+pub mod Holding
+pub mod Joining
+pub mod Shuffling
+pub mod Taking

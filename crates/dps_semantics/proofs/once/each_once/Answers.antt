@@ -1,0 +1,54 @@
+use Rattle.std.proofs.Common.{◌∙◌, List, ℕ, Vec, Global, map, ap, sym, subst, arith, true≢false}
+use Rattle.dps_bags.proofs.Holding.{mapped_pushed}
+use Rattle.dps_process.specs.Process.{Process}
+use Rattle.dps_process.specs.Steps.{Config}
+use Rattle.dps_semantics.specs.Once.{AreNumbersOf, IsKept}
+use Rattle.dps_semantics.proofs.Lists.{no_items_left}
+use Rattle.dps_semantics.proofs.Singles.{OnceBelow, once_more, once_same, once_all}
+use Rattle.dps_semantics.proofs.once.each_once.Goals as goal
+
+abbrev numbers_in : Vec ℕ Global → List ℕ
+numbers_in key = key.items
+
+pub loop-config-preserved : goal.loop-config-preserved
+loop-config-preserved c =
+    let all = c.args.configs.items in
+    let left = c.pop.new.self.items in
+    let config = c.in-Some.config in
+    let old = c.loop-config.table in
+    let new = c.numbers_of.new.table in
+    let keys = map numbers_in c.loop-config.keys.items in
+    let numbers = c.in_ok-numbers.numbers.items in
+    let once = c.loop-config.once.items in
+    let before = subst (λ (ls : List Config). OnceBelow all ls old keys once) c.in-Some.ensures.items c.loop-config.invariant in
+    let parts = c.deref.ensures.value ∙ ap (λ (k : Config). k.parts) c.config.view_is in
+    let number = subst (λ (ps : List Process). AreNumbersOf ps old new numbers) parts c.in_ok-numbers.ensures in
+    let inside = rw (c.deref-in-Some-2.ensures.value, c.deref-in-Some-3.ensures.value, c.deref-in-Some-4.ensures.value) at (c.is_kept.ensures c.if-not-is_kept.false) in
+    let kept = subst (λ (k : Config). IsKept keys once numbers k.frame) c.config.view_is inside in
+    once_same all left config old new keys numbers once before number kept
+
+pub loop-config-preserved-in-Continue-branch-4 : goal.loop-config-preserved-in-Continue-branch-4
+loop-config-preserved-in-Continue-branch-4 c =
+    let all = c.args.configs.items in
+    let left = c.pop.new.self.items in
+    let config = c.in-Some.config in
+    let old = c.loop-config.table in
+    let new = c.numbers_of.new.table in
+    let keys = map numbers_in c.loop-config.keys.items in
+    let numbers = c.in_ok-numbers.numbers.items in
+    let once = c.loop-config.once.items in
+    let more = c.push-then-not-is_kept.new.self.items in
+    let before = subst (λ (ls : List Config). OnceBelow all ls old keys once) c.in-Some.ensures.items c.loop-config.invariant in
+    let parts = c.deref.ensures.value ∙ ap (λ (k : Config). k.parts) c.config.view_is in
+    let number = subst (λ (ps : List Process). AreNumbersOf ps old new numbers) parts c.in_ok-numbers.ensures in
+    let pushed = ap (map numbers_in) c.in_ok-push.ensures.items ∙ mapped_pushed numbers_in c.loop-config.keys.items c.in_ok-numbers.numbers in
+    subst (λ (ks : List (List ℕ)). OnceBelow all left new ks more) (sym pushed)
+    (once_more all left config old new keys numbers once more before number c.in_ok-push-2.ensures.items)
+
+pub returns : goal.returns
+returns c =
+    let all = c.args.configs.items in
+    let keys = map numbers_in c.loop-config.keys.items in
+    let none = no_items_left c.loop-config.left.items (λ h. true≢false (sym (c.in_default.ensures.variant.1 (omega (arith, h, c.loop-config.left.ok))))) in
+    once_all all c.loop-config.table keys c.loop-config.once.items
+    (subst (λ (ls : List Config). OnceBelow all ls c.loop-config.table keys c.loop-config.once.items) none c.loop-config.invariant)

@@ -1,0 +1,14 @@
+pub mod Stored
+pub mod Settling
+pub mod Words
+pub mod Coming
+pub mod Laws
+pub mod Parts
+pub mod Configs
+pub mod Meeting
+pub mod Recipes
+pub mod Asking
+pub mod Acting
+pub mod Answers
+pub mod Following
+pub mod Once
