@@ -1,0 +1,2 @@
+pub mod Know
+pub mod Coding

@@ -1,0 +1,5 @@
+pub mod Bindings
+pub mod Once
+pub mod Rows
+pub mod Each
+pub mod Matching
