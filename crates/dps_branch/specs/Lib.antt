@@ -1,1 +1,3 @@
 pub mod Sides
+pub mod LookTrees
+pub mod Looks

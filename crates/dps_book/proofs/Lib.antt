@@ -1,0 +1,4 @@
+pub mod Counts
+pub mod Holding
+pub mod Keeping
+pub mod Ledgers
