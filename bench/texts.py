@@ -104,6 +104,9 @@ RULED = {
 # against doubled ones; the same, and a pair that fails behind them
 UNIFYING = {"last": "last", "first": "first", "variable": "variable", "doubled": "doubled", "clash": "clash"}
 
+# names of cases: a table without a stop, and one that stops at its last look
+EXPLORING = {"none": "none", "last": "last"}
+
 folder = pathlib.Path(sys.argv[2])
-for name, text in {"lexing": LEXING, "reading": READING, "unifying": UNIFYING, "comparing": COMPARING, "ruled": RULED}[sys.argv[1]].items():
+for name, text in {"lexing": LEXING, "reading": READING, "unifying": UNIFYING, "comparing": COMPARING, "ruled": RULED, "exploring": EXPLORING}[sys.argv[1]].items():
     (folder / f"{name}.txt").write_text(text)
