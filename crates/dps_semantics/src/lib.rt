@@ -20,6 +20,8 @@ mod putting;
 mod recipe;
 mod running;
 mod settling;
+#[cfg(test)]
+mod tests;
 
 pub use acting::act;
 pub use config::Config;

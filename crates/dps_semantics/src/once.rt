@@ -3,7 +3,7 @@ ghost use Rattle.std.specs.Prelude.{◌≡◌, map, IfOk, IsTrue};
 ghost use Rattle.dps_semantics.specs.Once.{AreSame, AreNumbersOf, IsKept, IsKeyAt, IsFrameAt};
 
 use crate::Config;
-use crate::digest::with_message;
+use crate::digest::with_term;
 use crate::parts::Parts;
 use dps_bags::{Places, with_numbers};
 use dps_process::Process;
@@ -54,7 +54,7 @@ fn numbers_of(
 fn frame_digest(frame: &Frame) -> u64 {
     let mut digest = 0;
     for message in &frame.messages {
-        digest = with_message(digest, message);
+        digest = with_term(digest, message);
     }
     digest
 }
