@@ -1,8 +1,8 @@
--- What an expansion answers, and which nodes belong to a tree.
+-- What an expansion answers.
 use Rattle.std.specs.Prelude.{◌≡◌, ℕ, ◌<◌, ◌^◌, List, [], ◌∷◌, ◌++◌, map, length, slice_get, Some}
 use Rattle.dps_branch.specs.declared.branching.Look.{Look}
 use Rattle.dps_branch.specs.declared.branching.Look.TheVariants.{Stop, Kids}
-use Rattle.dps_branch.specs.LookTrees.{LookTree, LookTrees, stop, kids, list_of, part}
+use Rattle.dps_branch.specs.LookTrees.{LookTree, LookTrees, stop, kids, list_of}
 
 -- the nodes are the kids of the node at this path with this look tree: they have its kids' look trees, and kid i has the path with i added
 pub record AreKids {N : Type 0} (place : N → List ℕ) (looks : N → LookTree) (path : List ℕ) (tree : LookTree) (nodes : List N) : Type 0 where
@@ -16,7 +16,3 @@ pub record AreKids {N : Type 0} (place : N → List ℕ) (looks : N → LookTree
 abbrev pub IsTop : {N : Type 0} → (N → List ℕ) → (N → LookTree) → List ℕ → LookTree → Look N → Type 0
 IsTop place looks path tree (Stop kind) = tree ≡ stop kind
 IsTop place looks path tree (Kids nodes) = AreKids place looks path tree nodes.items
-
--- a node at this path with this look tree is a node of the whole tree
-abbrev pub Belongs : LookTree → List ℕ → LookTree → Type 0
-Belongs whole path tree = part (Some whole) path ≡ Some tree

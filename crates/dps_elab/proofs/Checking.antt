@@ -4,7 +4,7 @@ use Rattle.std.specs.Prelude.{slice_get, Option, Some, None}
 use Rattle.std.specs.Option.{option_map}
 use Rattle.std.proofs.lemmas.Option.{none-some}
 use Rattle.dps_lex.specs.declared.vocabulary.Place.{Place}
-use Rattle.dps_terms.specs.Signature.{Name}
+use Rattle.dps_signature.specs.Signature.{Name}
 use Rattle.dps_process.specs.Process.{Process}
 use Rattle.dps_names.specs.Program.{Program}
 use Rattle.dps_elab.specs.Expansion.{Numbers, Expansion, private_numbers, private_names, expansion_of, left_expansion, right_expansion}

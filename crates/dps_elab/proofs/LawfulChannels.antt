@@ -4,7 +4,7 @@ use Rattle.std.specs.Prelude.{Option, Some, None, slice_get, unwrap_or, is_some,
 use Rattle.std.proofs.lemmas.Option.{slice_get_within, none-some}
 use Rattle.dps_terms.specs.declared.PublicName.TheVariants.{Declared, At}
 use Rattle.dps_terms.specs.Tree.{Leaf, public, private, var, ax, entry, rigid, Tree, leaf, app}
-use Rattle.dps_terms.specs.Signature.{Name, Signature}
+use Rattle.dps_signature.specs.Signature.{Name, Signature}
 use Rattle.dps_elab.specs.Expansion.{private_numbers, declared_leaf, declared_name}
 use Rattle.dps_elab.specs.Meaning.{first_such, is_no_channel}
 use Rattle.dps_elab.specs.declared.found.ChannelUse.{ChannelUse}

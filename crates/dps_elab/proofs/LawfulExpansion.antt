@@ -3,8 +3,8 @@ use Rattle.std.proofs.Common.{◌≡◌, ℕ, zero, suc, ◌+◌, ◌-◌, ◌<�
 use Rattle.std.specs.Prelude.{◌≢◌, Some, slice_get}
 use Rattle.std.proofs.lemmas.List.{append-nil, length-append}
 use Rattle.dps_terms.specs.Tree.{app, trees, var, private, Tree}
-use Rattle.dps_terms.specs.Signature.{Signature}
-use Rattle.dps_terms.specs.Kinds.{IsSourceTerm}
+use Rattle.dps_signature.specs.Signature.{Signature}
+use Rattle.dps_signature.specs.Kinds.{IsSourceTerm}
 use Rattle.dps_process.specs.Process as process
 use Rattle.dps_process.specs.Process.{Process, IsFree, EachTerm, EachChannel}
 use Rattle.dps_scopes.specs.declared.body.Step.{Step}

@@ -3,10 +3,10 @@ use Rattle.std.proofs.Common.{◌≡◌, ◌≤◌, ◌^◌, Bool, true, false, 
 use Rattle.std.specs.Prelude.{Option, Some, None, slice_get, ◌||◌, nat_lt}
 use Rattle.std.proofs.lemmas.Bool.{ltb-false}
 use Rattle.dps_lex.specs.declared.vocabulary.Place.{Place}
-use Rattle.dps_terms.specs.declared.SymKind.{SymKind}
-use Rattle.dps_terms.specs.declared.SymKind.TheVariants.{Constructor, Destructor}
+use Rattle.dps_signature.specs.declared.SymKind.{SymKind}
+use Rattle.dps_signature.specs.declared.SymKind.TheVariants.{Constructor, Destructor}
 use Rattle.dps_terms.specs.Tree.{Tree, Trees, leaf, app, none, more, node_count, node_counts}
-use Rattle.dps_terms.specs.Signature.{Shape, Signature, shapes}
+use Rattle.dps_signature.specs.Signature.{Shape, Signature, shapes}
 use Rattle.dps_process.specs.Process.{Process, nil, parallel, choice, conditional, bind, input, output, size, term_sum, EachBinder}
 use Rattle.dps_process.specs.Problem.{IsLawfulSide, shape_destructor, destructors, destructors_of}
 use Rattle.dps_names.specs.Program.{Program}

@@ -6,8 +6,9 @@ use Rattle.std.proofs.lemmas.List.Elements.{All-head, All-tail}
 use Rattle.dps_terms.specs.Tree.{Leaf, public, private, var, ax, entry, rigid, Tree, app, trees, StandsIn}
 use Rattle.dps_terms.specs.Replace.{variables_to}
 use Rattle.dps_terms.specs.declared.Sym.{Sym}
-use Rattle.dps_terms.specs.Signature.{Signature, HasArity, shapes}
-use Rattle.dps_terms.specs.Kinds.{IsBuiltOf, IsSourceName, IsSourceLeaf, IsSourceTerm}
+use Rattle.dps_signature.specs.Signature.{Signature, HasArity, shapes}
+use Rattle.dps_terms.specs.Kinds.{IsBuiltOf}
+use Rattle.dps_signature.specs.Kinds.{IsSourceName, IsSourceLeaf, IsSourceTerm}
 use Rattle.dps_terms.proofs.Building.{built_instance, built_weaker, leaf_meets}
 use Rattle.dps_names.specs.Program.{Written}
 use Rattle.dps_names.specs.WellFormed.{IsWrittenLeaf, IsTermOver}

@@ -4,7 +4,7 @@ use Rattle.std.specs.Prelude.{ℕ, zero, suc, ◌+◌, ◌-◌, ◌^◌, if◌th
 use Rattle.dps_terms.specs.declared.PublicName.TheVariants.{Declared, At}
 use Rattle.dps_terms.specs.Tree.{Leaf, public, private, var, ax, entry, rigid, Tree, leaf, app, trees}
 use Rattle.dps_terms.specs.Replace.{substitute}
-use Rattle.dps_terms.specs.Signature.{Name}
+use Rattle.dps_signature.specs.Signature.{Name}
 use Rattle.dps_process.specs.Process as process
 use Rattle.dps_process.specs.Process.{Process}
 use Rattle.dps_scopes.specs.declared.written.Use.{Use}

@@ -13,7 +13,8 @@ use crate::{ChannelUse, ExpandRefusal, ExpansionCause, ExpansionFault, PrivateUs
 use dps_lex::Place;
 use dps_names::Program;
 use dps_process::Process;
-use dps_terms::{NoMemory, Signature};
+use dps_signature::Signature;
+use dps_terms::NoMemory;
 use std::alloc::{AllocError, Global};
 use std::collections::BTreeSet;
 

@@ -3,7 +3,7 @@ use Rattle.std.proofs.Common.{◌≡◌, ℕ, List, [], ◌∷◌, refl, ap, inl
 use Rattle.std.specs.Prelude.{◌≢◌, Bool, true, false, Option, Some, codes, All}
 use Rattle.std.specs.Option.{option_map}
 use Rattle.std.proofs.lemmas.List.Elements.{All-head, All-tail}
-use Rattle.dps_terms.specs.Signature.{Name, IsPublic, IsPrivate}
+use Rattle.dps_signature.specs.Signature.{Name, IsPublic, IsPrivate}
 use Rattle.dps_theory.specs.Evaluation.{named}
 use Rattle.dps_theory.specs.Examples.{theory, over, sdec, a, b, x}
 use Rattle.dps_theory.proofs.Encryption.{opens, no_ciphertext}

@@ -3,8 +3,9 @@ use Rattle.std.proofs.Common.{◌≡◌, ℕ, zero, suc, ◌≤◌, List, [], �
 use Rattle.std.specs.Prelude.{◌⊎◌}
 use Rattle.dps_terms.specs.Tree.{Leaf, public, private, var, ax, entry, rigid, Tree, leaf, StandsIn}
 use Rattle.dps_terms.specs.Replace.{replace, in_frame, handles_to}
-use Rattle.dps_terms.specs.Signature.{HasArity, shapes}
-use Rattle.dps_terms.specs.Kinds.{IsRecipe, IsRecipeLeaf, IsName, IsNoVariable, AnySymbol}
+use Rattle.dps_signature.specs.Signature.{HasArity, shapes}
+use Rattle.dps_terms.specs.Kinds.{IsName, IsNoVariable, AnySymbol}
+use Rattle.dps_signature.specs.Kinds.{IsRecipe, IsRecipeLeaf}
 use Rattle.dps_terms.proofs.Replacing.{replace_in_turn, replace_agrees}
 use Rattle.dps_terms.proofs.Building.{leaf_meets}
 use Rattle.dps_theory.specs.Theory.{Rule}

@@ -3,8 +3,8 @@ use Rattle.std.proofs.Common.{◌≡◌, List, [], ◌∷◌, refl, sym, subst, 
 use Rattle.std.specs.Prelude.{codes}
 use Rattle.dps_terms.specs.Tree.{Leaf, public, private, var, ax, entry, rigid, Tree, leaf, StandsIn, itself}
 use Rattle.dps_terms.specs.Replace.{in_frame, handles_to}
-use Rattle.dps_terms.specs.Signature.{HasArity, shapes}
-use Rattle.dps_terms.specs.Kinds.{IsRecipe, IsRecipeLeaf}
+use Rattle.dps_signature.specs.Signature.{HasArity, shapes}
+use Rattle.dps_signature.specs.Kinds.{IsRecipe, IsRecipeLeaf}
 use Rattle.dps_terms.proofs.Replacing.{replace_stays}
 use Rattle.dps_terms.proofs.Building.{leaf_meets}
 use Rattle.dps_theory.specs.Theory.{Rule}

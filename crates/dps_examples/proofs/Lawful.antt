@@ -4,8 +4,9 @@ use Rattle.std.specs.Prelude.{false, Option, Some, None, codes}
 use Rattle.std.specs.Option.{option_map}
 use Rattle.dps_terms.specs.declared.PublicName.TheVariants.{Declared}
 use Rattle.dps_terms.specs.Tree.{Leaf, public, private, leaf, itself}
-use Rattle.dps_terms.specs.Signature.{Shape, Name, HasArity, shapes, IsPublic}
-use Rattle.dps_terms.specs.Kinds.{IsSourceTerm, IsNoVariable, AnySymbol}
+use Rattle.dps_signature.specs.Signature.{Shape, Name, HasArity, shapes, IsPublic}
+use Rattle.dps_terms.specs.Kinds.{IsNoVariable, AnySymbol}
+use Rattle.dps_signature.specs.Kinds.{IsSourceTerm}
 use Rattle.dps_terms.proofs.Building.{leaf_meets}
 use Rattle.dps_theory.specs.Examples.{signature, senc}
 use Rattle.dps_theory.proofs.Encryption.{decryption_accepted, decryption_over, decryption_plain}

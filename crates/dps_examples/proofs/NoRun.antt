@@ -2,7 +2,7 @@
 use Rattle.std.proofs.Common.{◌≡◌, [], ◌∷◌, ap, inl, inr, arith}
 use Rattle.std.specs.Prelude.{Bool, true, false, Option, Some}
 use Rattle.std.specs.Option.{option_map}
-use Rattle.dps_terms.specs.Signature.{Name, IsPublic}
+use Rattle.dps_signature.specs.Signature.{Name, IsPublic}
 use Rattle.dps_theory.specs.Examples.{theory, over, sdec, a, b, x}
 use Rattle.dps_theory.proofs.Encryption.{no_ciphertext}
 use Rattle.dps_process.specs.Process.{nil, input, output}

@@ -1,10 +1,10 @@
 -- Runs of single processes that are there.
 use Rattle.std.proofs.Common.{ℕ, ◌≤◌, [], ◌∷◌, refl, arith}
 use Rattle.std.specs.Prelude.{codes}
-use Rattle.dps_terms.specs.declared.SymKind.TheVariants.{Constructor, Destructor}
+use Rattle.dps_signature.specs.declared.SymKind.TheVariants.{Constructor, Destructor}
 use Rattle.dps_terms.specs.declared.PublicName.TheVariants.{At}
 use Rattle.dps_terms.specs.Tree.{public, ax, Tree, leaf}
-use Rattle.dps_terms.specs.Kinds.{IsRecipe}
+use Rattle.dps_signature.specs.Kinds.{IsRecipe}
 use Rattle.dps_theory.specs.Evaluation.{Evaluates, named}
 use Rattle.dps_theory.specs.Frames.{HasValue}
 use Rattle.dps_theory.specs.Examples.{theory, over, senc, sdec, a, b}

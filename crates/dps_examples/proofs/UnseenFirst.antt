@@ -4,7 +4,7 @@ use Rattle.std.specs.Prelude.{◌≢◌, Bool, true, false, Option, Some, codes}
 use Rattle.std.specs.Option.{option_map}
 use Rattle.dps_branch.specs.declared.Side.TheVariants.{Right}
 use Rattle.dps_terms.specs.Tree.{Tree}
-use Rattle.dps_terms.specs.Signature.{Name, IsPrivate}
+use Rattle.dps_signature.specs.Signature.{Name, IsPrivate}
 use Rattle.dps_theory.specs.Evaluation.{named}
 use Rattle.dps_theory.specs.Examples.{signature, theory, a, b}
 use Rattle.dps_theory.proofs.Evaluating.{plain_alone}

@@ -3,7 +3,7 @@ use Rattle.std.specs.Prelude.{◌≡◌, ℕ, List, [], ◌∷◌}
 use Rattle.dps_branch.specs.declared.Side.{Side}
 use Rattle.dps_terms.specs.declared.PublicName.TheVariants.{Declared, At}
 use Rattle.dps_terms.specs.Tree.{public, Tree, leaf, app, none, more}
-use Rattle.dps_terms.specs.Signature.{shapes}
+use Rattle.dps_signature.specs.Signature.{shapes}
 use Rattle.dps_theory.specs.Examples.{signature, theory, over, senc, sdec, a, b, k, n, x}
 use Rattle.dps_process.specs.Models.{Model, Private}
 use Rattle.dps_process.specs.Process.{Process, nil, parallel, choice, conditional, bind, input, output, put, term_sum}

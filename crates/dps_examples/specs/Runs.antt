@@ -3,7 +3,7 @@
 use Rattle.std.specs.Prelude.{List, [], ◌∷◌, ◌++◌, codes, true}
 use Rattle.dps_terms.specs.declared.PublicName.TheVariants.{Declared, At}
 use Rattle.dps_terms.specs.Tree.{public, ax, Tree, leaf}
-use Rattle.dps_terms.specs.Signature.{Signature}
+use Rattle.dps_signature.specs.Signature.{Signature}
 use Rattle.dps_theory.specs.Examples.{signature, theory, over, senc, sdec, a, b, k, x}
 use Rattle.dps_process.specs.Models.{Model}
 use Rattle.dps_process.specs.Process.{Process, nil, parallel, choice, bind, input, output}

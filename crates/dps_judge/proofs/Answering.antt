@@ -7,7 +7,7 @@ use Rattle.dps_branch.specs.declared.Side.{Side}
 use Rattle.dps_lex.specs.declared.vocabulary.Place.{Place}
 use Rattle.dps_lex.specs.declared.vocabulary.Fault.{Fault}
 use Rattle.dps_lex.specs.Spelling.{fault_words}
-use Rattle.dps_terms.specs.Signature.{Signature}
+use Rattle.dps_signature.specs.Signature.{Signature}
 use Rattle.dps_syntax.specs.declared.tree.Decl.{Decl}
 use Rattle.dps_syntax.specs.declared.tree.File.{File}
 use Rattle.dps_syntax.specs.Files.{IsFileOfText, IsFirstFault}

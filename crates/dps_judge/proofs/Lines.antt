@@ -1,7 +1,7 @@
 -- The lines of a trace, one by one.
 use Rattle.std.proofs.Common.{◌≡◌, ℕ, ◌+◌, ◌<◌, List, [], ◌∷◌, ◌++◌, length, get_or, drop, refl, sym, ap, ◌∙◌, append_assoc}
 use Rattle.std.proofs.lemmas.List.{drop_more}
-use Rattle.dps_terms.specs.Signature.{Signature}
+use Rattle.dps_signature.specs.Signature.{Signature}
 use Rattle.dps_process.specs.Steps.{outputs}
 use Rattle.dps_tree.specs.Words.{outputs_from}
 use Rattle.dps_judge.specs.Traces.{label_text, label_lines}

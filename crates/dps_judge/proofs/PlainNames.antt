@@ -5,7 +5,7 @@ use denote.Enum.Bare.{sameb}
 use Rattle.dps_lex.specs.contracts.vocabulary.TokenKind.{the_type as kinds}
 use Rattle.dps_lex.specs.declared.vocabulary.TokenKind.{TokenKind}
 use Rattle.dps_lex.specs.declared.vocabulary.TokenKind.TheVariants as kind
-use Rattle.dps_terms.specs.Signature.{Signature}
+use Rattle.dps_signature.specs.Signature.{Signature}
 use Rattle.dps_syntax.specs.declared.grammar.Word.{Word}
 use Rattle.dps_syntax.specs.declared.grammar.Production.{Production}
 use Rattle.dps_syntax.specs.declared.grammar.Production.TheVariants as production

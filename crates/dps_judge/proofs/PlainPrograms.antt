@@ -5,9 +5,9 @@ use Rattle.std.specs.Prelude.{not}
 use Rattle.std.specs.List.{All}
 use Rattle.std.proofs.lemmas.List.Elements.{All-nil, All-head, All-tail, All-push}
 use Rattle.dps_lex.specs.declared.vocabulary.TokenKind.TheVariants as kind
-use Rattle.dps_terms.specs.declared.SymKind.TheVariants.{Constructor}
-use Rattle.dps_terms.specs.Signature.{Symbol, Name, Signature}
-use Rattle.dps_terms.specs.Names.{with_symbol, with_name}
+use Rattle.dps_signature.specs.declared.SymKind.TheVariants.{Constructor}
+use Rattle.dps_signature.specs.Signature.{Symbol, Name, Signature}
+use Rattle.dps_signature.specs.Names.{with_symbol, with_name}
 use Rattle.dps_syntax.specs.declared.grammar.Word.{Word}
 use Rattle.dps_syntax.specs.declared.grammar.Production.{Production}
 use Rattle.dps_syntax.specs.declared.grammar.Production.TheVariants as production

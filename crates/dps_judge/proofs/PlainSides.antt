@@ -3,8 +3,8 @@ use Rattle.std.proofs.Common.{◌≡◌, ℕ, zero, suc, ◌-◌, ◌<◌, Bool,
 use Rattle.std.specs.List.{All}
 use Rattle.std.proofs.lemmas.List.Elements.{All-head, All-tail, All-weaker}
 use Rattle.dps_lex.specs.declared.vocabulary.Place.{Place}
-use Rattle.dps_terms.specs.declared.SymKind.TheVariants.{Constructor}
-use Rattle.dps_terms.specs.Signature.{Name, Signature, IsPublic}
+use Rattle.dps_signature.specs.declared.SymKind.TheVariants.{Constructor}
+use Rattle.dps_signature.specs.Signature.{Name, Signature, IsPublic}
 use Rattle.dps_process.specs.Process as process
 use Rattle.dps_process.specs.Process.{Process, EachChannel}
 use Rattle.dps_process.specs.Problem.{Problem, IsLawfulSide, IsLawful}

@@ -6,8 +6,8 @@ use Rattle.std.specs.Str.{byte, bytes_eq}
 use Rattle.std.proofs.lemmas.Bool.{eqb-true}
 use Rattle.std.proofs.lemmas.List.Elements.{All-weaker}
 use Rattle.std.proofs.lemmas.List.Quantifiers.{position-Some}
-use Rattle.dps_terms.specs.Signature.{Symbol, Signature, shapes}
-use Rattle.dps_terms.specs.Names.{is_letter, is_name_byte, tuple_name, symbol_named}
+use Rattle.dps_signature.specs.Signature.{Symbol, Signature, shapes}
+use Rattle.dps_signature.specs.Names.{is_letter, is_name_byte, tuple_name, symbol_named}
 use Rattle.dps_theory.specs.Theory.{Rule, Theory}
 use Rattle.dps_scopes.specs.Scopes.{is_word}
 use Rattle.dps_names.specs.Program.{Program}

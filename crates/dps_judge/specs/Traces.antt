@@ -3,8 +3,8 @@ use Rattle.std.specs.Prelude.{ℕ, List, [], ◌∷◌, ◌++◌, codes}
 use Rattle.std.specs.Fmt.{decimal}
 use Rattle.dps_branch.specs.declared.Side.{Side}
 use Rattle.dps_branch.specs.declared.Side.TheVariants.{Left, Right}
-use Rattle.dps_terms.specs.Signature.{Signature}
-use Rattle.dps_terms.specs.Text.{name_text, term_text}
+use Rattle.dps_signature.specs.Signature.{Signature}
+use Rattle.dps_signature.specs.Text.{name_text, term_text}
 use Rattle.dps_process.specs.Steps.{Label, inputs, outputs, overhears}
 
 -- `in(c,R)`, `out(c,axj)` and `eav(c,axj)`

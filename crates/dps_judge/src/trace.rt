@@ -5,7 +5,8 @@ ghost use Rattle.dps_tree.specs.Words.{word_of};
 ghost use Rattle.dps_judge.specs.Traces.{label_text, side_text, trace_text};
 
 use dps_branch::Side;
-use dps_terms::{NoMemory, Signature};
+use dps_signature::Signature;
+use dps_terms::NoMemory;
 use dps_tree::PlainAttack;
 use std::alloc::Global;
 

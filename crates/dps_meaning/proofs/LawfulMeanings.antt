@@ -1,7 +1,7 @@
 -- Each problem that a text means is lawful.
 use Rattle.std.proofs.Common.{◌≡◌, ◌≤◌, ◌^◌, ℕ, List, ◌++◌, length, refl, sym, subst}
 use Rattle.std.proofs.lemmas.List.Elements.{Contains-append_right}
-use Rattle.dps_terms.specs.Signature.{shapes, Shape}
+use Rattle.dps_signature.specs.Signature.{shapes, Shape}
 use Rattle.dps_theory.specs.Theory.{Rule, Theory, IsAccepted}
 use Rattle.dps_theory.specs.Projections.{projections}
 use Rattle.dps_theory.specs.Laws.{AcceptedRulesJoinProjections}

@@ -3,7 +3,7 @@ use Rattle.std.proofs.Common.{◌≡◌, ◌⊎◌, ℕ, ◌≤◌, length, List
 use Rattle.dps_lex.specs.declared.vocabulary.Place.{Place}
 use Rattle.dps_syntax.specs.declared.tree.Decl.{Decl}
 use Rattle.dps_syntax.specs.LawsOfFiles.{IsTreeOfText, EachTextIsFileOrHasFault, TreesAreDeclared}
-use Rattle.dps_terms.specs.Signature.{shapes}
+use Rattle.dps_signature.specs.Signature.{shapes}
 use Rattle.dps_theory.specs.Theory.{IsAccepted}
 use Rattle.dps_theory.specs.Laws.{AcceptedRulesJoinProjections}
 use Rattle.dps_theory.specs.RulesDecided.{RulesAreDecided}

@@ -1,6 +1,6 @@
 -- What the declarations of a file mean, and what a text means.
 use Rattle.std.specs.Prelude.{◌≡◌, ◌≤◌, ℕ, List, length, All}
-use Rattle.dps_terms.specs.Signature.{Signature}
+use Rattle.dps_signature.specs.Signature.{Signature}
 use Rattle.dps_theory.specs.Theory.{Theory, IsAccepted}
 use Rattle.dps_process.specs.Problem.{Problem}
 use Rattle.dps_syntax.specs.declared.tree.Decl.{Decl}

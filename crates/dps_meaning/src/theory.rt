@@ -10,8 +10,8 @@ use crate::cause::{of_names, of_rules};
 use dps_names::laws::rules_are_checkable;
 use dps_names::{Program, resolve};
 use dps_rules::theory_of as theory_of_program;
+use dps_signature::Signature;
 use dps_syntax::File;
-use dps_terms::Signature;
 use dps_theory::Theory;
 use std::alloc::Global;
 

@@ -1,6 +1,6 @@
 -- Chains of processes, read one by one.
 use Rattle.std.proofs.Common.{◌≡◌, ◌<◌, ℕ, ◌+◌, List, [], ◌∷◌, ◌++◌, refl, ap, ◌∙◌, length, get_or, drop}
-use Rattle.dps_terms.specs.Signature.{Signature}
+use Rattle.dps_signature.specs.Signature.{Signature}
 use Rattle.dps_syntax.specs.declared.tree.Part.{Part}
 use Rattle.dps_syntax.specs.declared.tree.Part.TheVariants.{Inner}
 use Rattle.dps_syntax.specs.Tree.{Derivation, Parts}

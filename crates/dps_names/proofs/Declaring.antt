@@ -4,8 +4,8 @@ use Rattle.std.specs.Prelude.{position}
 use Rattle.std.specs.Str.{bytes_eq}
 use Rattle.std.proofs.Math.Seq.{drop-length}
 use Rattle.dps_lex.specs.declared.vocabulary.TokenKind.TheVariants as kinds
-use Rattle.dps_terms.specs.Signature.{Signature}
-use Rattle.dps_terms.specs.Names.{IsIdentifier, symbol_named, name_named}
+use Rattle.dps_signature.specs.Signature.{Signature}
+use Rattle.dps_signature.specs.Names.{IsIdentifier, symbol_named, name_named}
 use Rattle.dps_syntax.specs.declared.tree.Decl.{Decl}
 use Rattle.dps_syntax.specs.declared.tree.Part.{Part}
 use Rattle.dps_syntax.specs.declared.tree.Part.TheVariants.{Token, Inner}

@@ -4,7 +4,7 @@ use Rattle.std.proofs.Common.{◌≡◌, ◌≤◌, ◌<◌, ℕ, ◌+◌, ◌&&
 use Rattle.std.specs.Prelude.{nat_le}
 use Rattle.dps_lex.specs.declared.vocabulary.TokenKind.TheVariants as kinds
 use Rattle.dps_terms.specs.declared.Sym.{Sym}
-use Rattle.dps_terms.specs.Signature.{Signature, HasArity, shapes}
+use Rattle.dps_signature.specs.Signature.{Signature, HasArity, shapes}
 use Rattle.dps_syntax.specs.Tree.{Lexeme, Parts, none, token, inner}
 use Rattle.dps_scopes.specs.declared.body.Step.{Step}
 use Rattle.dps_scopes.specs.declared.body.Step.TheVariants.{Project, Test}

@@ -3,7 +3,7 @@
 use Rattle.std.proofs.Common.{◌≡◌, ◌≤◌, ℕ, ◌+◌, Bool, true, false, List, [], ◌∷◌, Some, refl, sym, ◌∙◌, arith, length}
 use Rattle.std.specs.Prelude.{◌==◌, slice_get, ⊤}
 use Rattle.std.proofs.lemmas.Bool.{eqb-true}
-use Rattle.dps_terms.specs.Signature.{Signature}
+use Rattle.dps_signature.specs.Signature.{Signature}
 use Rattle.dps_syntax.specs.Tree.{Lexeme, Parts, none as no_parts, token, inner}
 use Rattle.dps_scopes.specs.declared.body.Channel.{Channel}
 use Rattle.dps_scopes.specs.declared.meaning.Meaning.{Meaning}

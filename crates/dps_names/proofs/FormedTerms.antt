@@ -6,7 +6,7 @@ use Rattle.std.proofs.lemmas.List.Elements.{All-nil, All-cons}
 use Rattle.dps_lex.specs.declared.vocabulary.TokenKind.TheVariants as kinds
 use Rattle.dps_terms.specs.declared.Sym.{Sym}
 use Rattle.dps_terms.specs.Tree.{trees, count}
-use Rattle.dps_terms.specs.Signature.{Signature, HasArity, IsNameThere, shapes}
+use Rattle.dps_signature.specs.Signature.{Signature, HasArity, IsNameThere, shapes}
 use Rattle.dps_terms.specs.Kinds.{AreBuiltOf}
 use Rattle.dps_syntax.specs.Tree.{Lexeme, Parts, none, token, inner}
 use Rattle.dps_scopes.specs.declared.meaning.Meaning.{Meaning}

@@ -7,8 +7,8 @@ use Rattle.std.specs.Option.{option_map}
 use Rattle.std.proofs.lemmas.Bool.{leb-true}
 use Rattle.std.proofs.lemmas.Option.{none-some, same_Some, slice_get-get_or}
 use Rattle.std.proofs.lemmas.List.Quantifiers.{position-Some}
-use Rattle.dps_terms.specs.Signature.{Signature, HasArity, IsNameThere, shapes}
-use Rattle.dps_terms.specs.Names.{symbol_named, name_named}
+use Rattle.dps_signature.specs.Signature.{Signature, HasArity, IsNameThere, shapes}
+use Rattle.dps_signature.specs.Names.{symbol_named, name_named}
 use Rattle.dps_scopes.specs.declared.meaning.Projection.{Projection}
 use Rattle.dps_scopes.specs.declared.meaning.Meaning.{Meaning}
 use Rattle.dps_scopes.specs.declared.meaning.Meaning.TheVariants.{Local as a_local, Name as a_name, Function as a_function, Process as a_process, Projection as a_projection, Unknown as unknown}

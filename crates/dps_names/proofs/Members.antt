@@ -1,6 +1,6 @@
 -- The members of a tuple pattern, taken one by one.
 use Rattle.std.proofs.Common.{◌≡◌, ◌<◌, ℕ, ◌+◌, List, refl, ap, ◌∙◌, length, get_or, drop, arith, subst}
-use Rattle.dps_terms.specs.Signature.{Signature}
+use Rattle.dps_signature.specs.Signature.{Signature}
 use Rattle.dps_syntax.specs.declared.tree.Part.{Part}
 use Rattle.dps_syntax.specs.declared.tree.Part.TheVariants.{Token, Inner}
 use Rattle.dps_syntax.specs.Tree.{Lexeme, Derivation, Parts, none, token, inner}

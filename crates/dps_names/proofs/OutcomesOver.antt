@@ -1,7 +1,7 @@
 -- What a piece of text gives: a value that meets P over the signature behind the piece, which grew from the one before it
 -- and has the symbols of each of its tuples.
 use Rattle.std.proofs.Common.{◌≡◌, Bool, true, false, if◌then◌else◌, refl}
-use Rattle.dps_terms.specs.Signature.{Signature}
+use Rattle.dps_signature.specs.Signature.{Signature}
 use Rattle.dps_scopes.specs.Outcome.{Outcome, done, faulty, and_then}
 use Rattle.dps_names.proofs.SignatureGrowth.{Grows, HasTuples, grows_refl, grows_trans}
 

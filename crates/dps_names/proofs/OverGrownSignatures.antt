@@ -4,8 +4,9 @@ use Rattle.std.proofs.lemmas.List.Elements.{All-weaker}
 use Rattle.dps_terms.specs.declared.PublicName.{PublicName}
 use Rattle.dps_terms.specs.declared.PublicName.TheVariants.{Declared, At}
 use Rattle.dps_terms.specs.Tree.{Leaf, public, private, var, ax, entry, rigid, Tree, Trees, leaf, app, none as no_trees, more as more_trees, count}
-use Rattle.dps_terms.specs.Signature.{Signature, HasArity, shapes}
-use Rattle.dps_terms.specs.Kinds.{AreBuiltOf, IsSourceName}
+use Rattle.dps_signature.specs.Signature.{Signature, HasArity, shapes}
+use Rattle.dps_terms.specs.Kinds.{AreBuiltOf}
+use Rattle.dps_signature.specs.Kinds.{IsSourceName}
 use Rattle.dps_scopes.specs.declared.body.Step.{Step}
 use Rattle.dps_scopes.specs.declared.body.Step.TheVariants.{Project, Test}
 use Rattle.dps_names.specs.Program.{Written, Definition, Body, Bodies, nil, parallel, choice, copies, fresh, input, output, conditional, bind, call, none, more}

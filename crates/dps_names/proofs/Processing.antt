@@ -1,6 +1,6 @@
 -- What processes say, from what their parts say.
 use Rattle.std.proofs.Common.{◌≡◌, ℕ, Bool, true, false, List, [], ◌∷◌, refl, sym, ap, ◌∙◌, if◌then◌else◌}
-use Rattle.dps_terms.specs.Signature.{Signature}
+use Rattle.dps_signature.specs.Signature.{Signature}
 use Rattle.dps_syntax.specs.Tree.{Lexeme, Parts, none, token, inner}
 use Rattle.dps_scopes.specs.declared.fault.NameFault.{NameFault}
 use Rattle.dps_scopes.specs.declared.fault.NameCause.TheVariants.{BadCopies}

@@ -3,9 +3,9 @@ use Rattle.std.proofs.Common.{◌≡◌, ◌≤◌, ◌<◌, ℕ, ◌+◌, Bool,
 use Rattle.std.specs.Prelude.{nat_le, All}
 use Rattle.std.proofs.lemmas.List.Elements.{All-nil, All-append, All-weaker}
 use Rattle.dps_lex.specs.declared.vocabulary.TokenKind.TheVariants as kinds
-use Rattle.dps_terms.specs.declared.SymKind.TheVariants.{Constructor}
-use Rattle.dps_terms.specs.Signature.{Symbol, Name, Signature}
-use Rattle.dps_terms.specs.Names.{with_name}
+use Rattle.dps_signature.specs.declared.SymKind.TheVariants.{Constructor}
+use Rattle.dps_signature.specs.Signature.{Symbol, Name, Signature}
+use Rattle.dps_signature.specs.Names.{with_name}
 use Rattle.dps_syntax.specs.declared.tree.Decl.{Decl}
 use Rattle.dps_syntax.specs.declared.tree.Decl.TheVariants.{Free, Const, Fun, Reduc, Define, Query}
 use Rattle.dps_syntax.specs.Files.{tree_of, trees_of}

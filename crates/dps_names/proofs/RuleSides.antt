@@ -5,10 +5,10 @@ use Rattle.std.proofs.lemmas.Bool.{eqb-true}
 use Rattle.std.proofs.lemmas.List.{length-take-le}
 use Rattle.std.proofs.lemmas.List.Elements.{All-nil, All-cons}
 use Rattle.dps_terms.specs.declared.Sym.{Sym}
-use Rattle.dps_terms.specs.declared.SymKind.TheVariants.{Destructor}
+use Rattle.dps_signature.specs.declared.SymKind.TheVariants.{Destructor}
 use Rattle.dps_terms.specs.Tree.{Leaf, var, Tree, leaf, app, trees, count}
-use Rattle.dps_terms.specs.Signature.{Symbol, Signature, HasArity, shapes}
-use Rattle.dps_terms.specs.Names.{with_symbol}
+use Rattle.dps_signature.specs.Signature.{Symbol, Signature, HasArity, shapes}
+use Rattle.dps_signature.specs.Names.{with_symbol}
 use Rattle.dps_terms.specs.Kinds.{IsBuiltOf, AreBuiltOf}
 use Rattle.dps_terms.proofs.Arguments.{count-trees}
 use Rattle.dps_theory.specs.Theory.{Rule}

@@ -8,9 +8,10 @@ use Rattle.dps_lex.specs.declared.vocabulary.TokenKind.TheVariants as kinds
 use Rattle.dps_terms.specs.declared.Sym.{Sym}
 use Rattle.dps_terms.specs.declared.PublicName.TheVariants.{Declared, At}
 use Rattle.dps_terms.specs.Tree.{Leaf, public, private, var, ax, entry, rigid, Tree, leaf, app, trees}
-use Rattle.dps_terms.specs.Signature.{Symbol, Signature, HasArity, IsNameThere, shapes}
-use Rattle.dps_terms.specs.Names.{symbol_named, name_named}
-use Rattle.dps_terms.specs.Kinds.{IsBuiltOf, AreBuiltOf, AnySymbol, IsOver, IsLeafOver, IsSourceName}
+use Rattle.dps_signature.specs.Signature.{Symbol, Signature, HasArity, IsNameThere, shapes}
+use Rattle.dps_signature.specs.Names.{symbol_named, name_named}
+use Rattle.dps_terms.specs.Kinds.{IsBuiltOf, AreBuiltOf, AnySymbol}
+use Rattle.dps_signature.specs.Kinds.{IsOver, IsLeafOver, IsSourceName}
 use Rattle.dps_terms.proofs.Arguments.{count-trees}
 use Rattle.dps_theory.specs.Theory.{IsRuleLeaf}
 use Rattle.dps_syntax.specs.Tree.{Lexeme, Parts, none, token, inner, lexemes}

@@ -10,8 +10,8 @@ use Rattle.dps_lex.specs.Reading.{Reads, end, gap, token, fault}
 use Rattle.dps_lex.proofs.Classes.{lexeme_long}
 use Rattle.dps_terms.specs.declared.Sym.{Sym}
 use Rattle.dps_terms.specs.Tree.{Tree, leaf, app}
-use Rattle.dps_terms.specs.Signature.{Signature, HasArity, shapes}
-use Rattle.dps_terms.specs.Names.{projection_name, symbol_named}
+use Rattle.dps_signature.specs.Signature.{Signature, HasArity, shapes}
+use Rattle.dps_signature.specs.Names.{projection_name, symbol_named}
 use Rattle.dps_terms.proofs.Building.{leaf_meets}
 use Rattle.dps_theory.specs.Theory.{Rule}
 use Rattle.dps_theory.specs.Judging.{root_of}

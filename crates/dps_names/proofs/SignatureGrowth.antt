@@ -10,13 +10,14 @@ use Rattle.std.proofs.lemmas.List.Quantifiers.{position-Some}
 use Rattle.std.proofs.lemmas.Option.{none-some, same_Some, slice_get-map, slice_get-get_or}
 use Rattle.std.proofs.lemmas.Slice.Eq.{bytes_eq-Decides}
 use Rattle.dps_terms.specs.declared.Sym.{Sym}
-use Rattle.dps_terms.specs.declared.SymKind.{SymKind}
-use Rattle.dps_terms.specs.declared.SymKind.TheVariants.{Constructor, Destructor}
+use Rattle.dps_signature.specs.declared.SymKind.{SymKind}
+use Rattle.dps_signature.specs.declared.SymKind.TheVariants.{Constructor, Destructor}
 use Rattle.dps_terms.specs.declared.PublicName.TheVariants.{Declared, At}
 use Rattle.dps_terms.specs.Tree.{Leaf, public, private, var, ax, entry, rigid, Tree, Trees, leaf, app, none, more, count}
-use Rattle.dps_terms.specs.Signature.{Symbol, Name, Signature, HasShape, HasArity, IsNameThere, shape_of, shapes}
-use Rattle.dps_terms.specs.Names.{tuple_name, projection_name, symbol_named, name_named, with_symbol, with_name}
-use Rattle.dps_terms.specs.Kinds.{IsBuiltOf, AreBuiltOf, IsOver, IsLeafOver}
+use Rattle.dps_signature.specs.Signature.{Symbol, Name, Signature, HasShape, HasArity, IsNameThere, shape_of, shapes}
+use Rattle.dps_signature.specs.Names.{tuple_name, projection_name, symbol_named, name_named, with_symbol, with_name}
+use Rattle.dps_terms.specs.Kinds.{IsBuiltOf, AreBuiltOf}
+use Rattle.dps_signature.specs.Kinds.{IsOver, IsLeafOver}
 use Rattle.dps_theory.specs.Projections.{HasProjections}
 use Rattle.dps_scopes.specs.Scopes.{is_reserved, projections_from, tuple_symbols, tuple_at, with_tuple}
 use Rattle.dps_scopes.proofs.FirstPlaces.{or_behind, position-cons, position-append, position_kept, position_behind, position_one}

@@ -1,6 +1,6 @@
 -- The signature with the symbols of the tuples of a length.
 use Rattle.std.proofs.Common.{◌≤◌, ℕ, ◌+◌}
-use Rattle.dps_terms.specs.Signature.{Signature, HasArity, shapes}
+use Rattle.dps_signature.specs.Signature.{Signature, HasArity, shapes}
 use Rattle.dps_scopes.specs.Scopes.{with_tuple}
 use Rattle.dps_names.proofs.SignatureGrowth.{Grows, HasTuples, grows_tuple, tuples_tuple, tuple_arity, projection_arity}
 

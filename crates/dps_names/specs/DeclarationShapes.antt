@@ -1,6 +1,6 @@
 -- The shapes of declarations: what stands behind their first token.
 use Rattle.std.specs.Prelude.{◌≡◌, ℕ, Bool, List, [], ◌∷◌, ◌++◌, Result, if◌then◌else◌}
-use Rattle.dps_terms.specs.Names.{with_name}
+use Rattle.dps_signature.specs.Names.{with_name}
 use Rattle.dps_syntax.specs.declared.grammar.Production.{Production}
 use Rattle.dps_syntax.specs.Tree.{Lexeme, Parts, token, inner}
 use Rattle.dps_scopes.specs.declared.fault.NameCause.TheVariants.{NameTwice}

@@ -2,9 +2,9 @@
 use Rattle.std.specs.Prelude.{ℕ, Bool, false, ◌||◌, nat_le, if◌then◌else◌, List, [], ◌∷◌, ◌++◌, length, Option, Some, None}
 use Rattle.dps_lex.specs.declared.vocabulary.Place.{Place}
 use Rattle.dps_lex.specs.declared.vocabulary.TokenKind.TheVariants as kinds
-use Rattle.dps_terms.specs.declared.SymKind.TheVariants.{Constructor}
-use Rattle.dps_terms.specs.Signature.{Signature}
-use Rattle.dps_terms.specs.Names.{with_symbol, with_name}
+use Rattle.dps_signature.specs.declared.SymKind.TheVariants.{Constructor}
+use Rattle.dps_signature.specs.Signature.{Signature}
+use Rattle.dps_signature.specs.Names.{with_symbol, with_name}
 use Rattle.dps_syntax.specs.Tree.{Lexeme, Parts, none as no_parts, token, inner}
 use Rattle.dps_syntax.specs.declared.tree.Decl.{Decl}
 use Rattle.dps_syntax.specs.declared.tree.Decl.TheVariants.{Free, Const, Fun, Reduc, Define, Query}

@@ -1,7 +1,7 @@
 -- What a file says once its names are looked up: a signature, rules, and processes in which a name is no text any more.
 use Rattle.std.specs.Prelude.{ℕ, List, []}
 use Rattle.dps_lex.specs.declared.vocabulary.Place.{Place}
-use Rattle.dps_terms.specs.Signature.{Signature}
+use Rattle.dps_signature.specs.Signature.{Signature}
 use Rattle.dps_theory.specs.Theory.{Rule}
 use Rattle.dps_names.specs.declared.program.Side.{Side}
 pub use Rattle.dps_scopes.specs.Written.{Written}

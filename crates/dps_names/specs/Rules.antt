@@ -2,7 +2,7 @@
 use Rattle.std.specs.Prelude.{ℕ, ◌-◌, List, [], ◌∷◌, take, slice_get, unwrap_or}
 use Rattle.dps_terms.specs.declared.Sym.{Sym}
 use Rattle.dps_terms.specs.Tree.{var, Tree, leaf, app, trees}
-use Rattle.dps_terms.specs.Signature.{Signature}
+use Rattle.dps_signature.specs.Signature.{Signature}
 use Rattle.dps_syntax.specs.Tree.{Lexeme, Parts, none, token, inner}
 use Rattle.dps_scopes.specs.Faults.{place_of}
 use Rattle.dps_scopes.specs.Outcome.{Outcome, done, faulty, and_then}

@@ -1,6 +1,6 @@
 -- The shapes of processes: what stands behind their first token.
 use Rattle.std.specs.Prelude.{◌≡◌, ⊤, List}
-use Rattle.dps_terms.specs.Signature.{Signature}
+use Rattle.dps_signature.specs.Signature.{Signature}
 use Rattle.dps_syntax.specs.declared.grammar.Production.{Production}
 use Rattle.dps_syntax.specs.Tree.{Lexeme, Parts, none, token, inner}
 use Rattle.dps_scopes.specs.Outcome.{done}

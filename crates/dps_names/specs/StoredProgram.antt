@@ -2,12 +2,12 @@
 use Rattle.std.specs.Prelude.{ℕ, List, refl}
 use Rattle.std.specs.Coded.{Coded, code_by, coded×, coded_list, coded_ℕ}
 use Rattle.dps_lex.specs.declared.vocabulary.Place.{Place}
-use Rattle.dps_terms.specs.Signature.{Signature}
+use Rattle.dps_signature.specs.Signature.{Signature}
 use Rattle.dps_theory.specs.Theory.{Rule}
 use Rattle.dps_theory.specs.Stored.{rule_code}
 use Rattle.dps_scopes.specs.StoredBody.{body_code}
 use Rattle.dps_scopes.specs.StoredDefinition.{definition_code}
-use Rattle.dps_terms.specs.StoredSignature.{signature_code}
+use Rattle.dps_signature.specs.StoredSignature.{signature_code}
 use Rattle.dps_names.specs.declared.program.Side.{Side}
 use Rattle.dps_names.specs.Program.{Body, Definition, WrittenRule, Program}
 

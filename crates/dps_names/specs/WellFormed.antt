@@ -2,8 +2,9 @@
 -- arguments as its definition has parameters.
 use Rattle.std.specs.Prelude.{◌≡◌, ℕ, ◌+◌, ◌<◌, List, [], ◌∷◌, length, take, slice_get, Some, All, ⊤}
 use Rattle.dps_terms.specs.Tree.{Leaf, public, private, var, ax, entry, rigid, Tree}
-use Rattle.dps_terms.specs.Signature.{Signature, HasArity, shapes}
-use Rattle.dps_terms.specs.Kinds.{IsBuiltOf, IsSourceName}
+use Rattle.dps_signature.specs.Signature.{Signature, HasArity, shapes}
+use Rattle.dps_terms.specs.Kinds.{IsBuiltOf}
+use Rattle.dps_signature.specs.Kinds.{IsSourceName}
 use Rattle.dps_scopes.specs.declared.body.Step.{Step}
 use Rattle.dps_scopes.specs.declared.body.Step.TheVariants.{Project, Test}
 use Rattle.dps_names.specs.Program.{Body, Bodies, nil, parallel, choice, copies, fresh, input, output, conditional, bind, call, none, more, Definition, Program}

@@ -1,7 +1,7 @@
 //! Declarations and files.
 ghost use Rattle.std.specs.Prelude.{◌≡◌, ◌<◌, false, position, Some, None, IfOk, IfErr, IfSome, OnOk, MatchOption, MatchResult};
 ghost use Rattle.std.specs.Str.{bytes_eq};
-ghost use Rattle.dps_terms.specs.Names.{IsDeclaredText};
+ghost use Rattle.dps_signature.specs.Names.{IsDeclaredText};
 ghost use Rattle.dps_scopes.specs.Scopes.{is_reserved};
 ghost use Rattle.dps_syntax.specs.Tree.{count};
 ghost use Rattle.dps_syntax.specs.Parts.{parts_of};
@@ -27,8 +27,9 @@ use dps_scopes::signature::{SignatureBuilder, add_name, add_symbol};
 use dps_scopes::term::MOST_ARGUMENTS;
 use dps_scopes::texts::Texts;
 use dps_scopes::{Body, NameCause, NameRefusal};
+use dps_signature::SymKind;
 use dps_syntax::{Decl, File, Leaf, Part};
-use dps_terms::{NoMemory, SymKind};
+use dps_terms::NoMemory;
 use std::alloc::{AllocError, Global};
 use std::marker::Model;
 

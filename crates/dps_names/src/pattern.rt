@@ -1,6 +1,6 @@
 //! Patterns. Each function reads the parts of one production.
 ghost use Rattle.std.specs.Prelude.{◌≡◌, ◌≤◌, [], IfOk, OnOk};
-ghost use Rattle.dps_terms.specs.Signature.{Signature};
+ghost use Rattle.dps_signature.specs.Signature.{Signature};
 ghost use Rattle.dps_syntax.specs.Parts.{parts_of};
 ghost use Rattle.dps_scopes.specs.Outcome.{Answers};
 ghost use Rattle.dps_scopes.specs.Blocks.{blocks};

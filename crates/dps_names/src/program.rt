@@ -1,7 +1,7 @@
 //! What a file says once its names are looked up.
 use dps_lex::Place;
 use dps_scopes::{Body, Definition};
-use dps_terms::Signature;
+use dps_signature::Signature;
 use dps_theory::Rule;
 use std::marker::Model;
 

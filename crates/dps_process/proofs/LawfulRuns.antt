@@ -7,8 +7,8 @@ use Rattle.dps_branch.specs.declared.Side.{Side}
 use Rattle.dps_branch.specs.declared.Side.TheVariants.{Left, Right}
 use Rattle.dps_terms.specs.Tree.{Leaf, public, private, var, ax, entry, rigid, Tree, leaf}
 use Rattle.dps_terms.specs.Replace.{replace, variables_to}
-use Rattle.dps_terms.specs.Signature.{Signature, HasArity, shapes}
-use Rattle.dps_terms.specs.Kinds.{IsSourceName, IsSourceLeaf, IsSourceTerm, IsDeclared, IsPartLeaf, IsPartTerm}
+use Rattle.dps_signature.specs.Signature.{Signature, HasArity, shapes}
+use Rattle.dps_signature.specs.Kinds.{IsSourceName, IsSourceLeaf, IsSourceTerm, IsDeclared, IsPartLeaf, IsPartTerm}
 use Rattle.dps_terms.specs.declared.PublicName.{PublicName}
 use Rattle.dps_terms.specs.declared.PublicName.TheVariants.{Declared, At}
 use Rattle.dps_terms.proofs.Building.{built_instance, built_weaker}

@@ -3,11 +3,11 @@ use Rattle.std.proofs.Common.{◌≡◌, ℕ, zero, suc, ◌<◌, List, [], ◌�
 use Rattle.std.specs.Prelude.{Bool, Some, slice_get}
 use Rattle.std.proofs.lemmas.Option.{none-some}
 use Rattle.dps_terms.specs.Tree.{Leaf, public, private, var, ax, entry, rigid, Tree}
-use Rattle.dps_terms.specs.Signature.{Signature, Name, IsNameThere, HasArity, shapes}
-use Rattle.dps_terms.specs.Names.{with_name}
+use Rattle.dps_signature.specs.Signature.{Signature, Name, IsNameThere, HasArity, shapes}
+use Rattle.dps_signature.specs.Names.{with_name}
 use Rattle.dps_terms.specs.declared.PublicName.{PublicName}
 use Rattle.dps_terms.specs.declared.PublicName.TheVariants.{Declared, At}
-use Rattle.dps_terms.specs.Kinds.{IsDeclared, IsLeafOver, IsOver, IsSourceName, IsSourceLeaf, IsSourceTerm, IsPartLeaf, IsPartTerm}
+use Rattle.dps_signature.specs.Kinds.{IsDeclared, IsLeafOver, IsOver, IsSourceName, IsSourceLeaf, IsSourceTerm, IsPartLeaf, IsPartTerm}
 use Rattle.dps_terms.proofs.Building.{built_weaker}
 use Rattle.dps_theory.specs.Theory.{Theory}
 use Rattle.dps_process.specs.Process.{Process, nil, parallel, choice, conditional, bind, input, output, EachChannel}

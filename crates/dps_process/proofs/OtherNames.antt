@@ -3,8 +3,9 @@ use Rattle.std.proofs.Common.{List}
 use Rattle.std.specs.Prelude.{All}
 use Rattle.std.proofs.lemmas.List.Elements.{All-weaker}
 use Rattle.dps_terms.specs.Tree.{Tree, Trees, leaf, app, none, more}
-use Rattle.dps_terms.specs.Signature.{Signature, HasArity, shapes}
-use Rattle.dps_terms.specs.Kinds.{AreBuiltOf, AnySymbol, IsFrameMessage, IsLeafOver, IsOver}
+use Rattle.dps_signature.specs.Signature.{Signature, HasArity, shapes}
+use Rattle.dps_terms.specs.Kinds.{AreBuiltOf, AnySymbol}
+use Rattle.dps_signature.specs.Kinds.{IsFrameMessage, IsLeafOver, IsOver}
 use Rattle.dps_theory.specs.Theory.{Rule, HasRule}
 use Rattle.dps_theory.specs.Frames.{IsFrame}
 use Rattle.dps_theory.specs.Laws.{HasNamesOf}

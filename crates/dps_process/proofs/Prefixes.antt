@@ -1,6 +1,6 @@
 -- A run with more labels begins as a run with fewer.
 use Rattle.std.proofs.Common.{◌≡◌, List, [], ◌∷◌, ◌++◌, refl, sym, ◌∙◌, subst}
-use Rattle.dps_terms.specs.Signature.{Signature}
+use Rattle.dps_signature.specs.Signature.{Signature}
 use Rattle.dps_theory.specs.Theory.{Theory}
 use Rattle.dps_process.specs.Models.{Model}
 use Rattle.dps_process.specs.Steps.{Config, Label}

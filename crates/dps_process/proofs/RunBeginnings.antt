@@ -2,8 +2,8 @@
 use Rattle.std.proofs.Common.{◌≡◌, ◌+◌, List, [], ◌∷◌, ◌++◌, length, refl, subst, inl, inr, append-nil}
 use Rattle.std.specs.Prelude.{◌⊎◌}
 use Rattle.dps_terms.specs.Tree.{Tree}
-use Rattle.dps_terms.specs.Signature.{Signature, IsPublic}
-use Rattle.dps_terms.specs.Kinds.{IsRecipe}
+use Rattle.dps_signature.specs.Signature.{Signature, IsPublic}
+use Rattle.dps_signature.specs.Kinds.{IsRecipe}
 use Rattle.dps_theory.specs.Theory.{Theory}
 use Rattle.dps_theory.specs.Evaluation.{Evaluates, IsMessage, AreEqual}
 use Rattle.dps_theory.specs.Frames.{HasValue}

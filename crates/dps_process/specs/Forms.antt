@@ -1,8 +1,8 @@
 -- What each form of process does by itself, and what two parts do together: just this, and nothing else.
 use Rattle.std.specs.Prelude.{◌≡◌, ◌⊎◌, ◌↔◌, ℕ, ◌+◌, List, [], ◌∷◌, ◌++◌, length, ⊤}
 use Rattle.dps_terms.specs.Tree.{Tree}
-use Rattle.dps_terms.specs.Signature.{Signature, IsPublic}
-use Rattle.dps_terms.specs.Kinds.{IsRecipe}
+use Rattle.dps_signature.specs.Signature.{Signature, IsPublic}
+use Rattle.dps_signature.specs.Kinds.{IsRecipe}
 use Rattle.dps_theory.specs.Theory.{Theory}
 use Rattle.dps_theory.specs.Evaluation.{Evaluates, IsMessage, AreEqual}
 use Rattle.dps_theory.specs.Frames.{HasValue}

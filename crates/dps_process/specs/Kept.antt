@@ -2,8 +2,8 @@
 use Rattle.std.specs.Prelude.{◌≡◌, ℕ, refl}
 use Rattle.std.proofs.Common.{zero, suc}
 use Rattle.std.specs.Coded.{Coded, code_by, coded×, coded_ℕ}
-use Rattle.dps_terms.specs.Signature.{Signature}
-use Rattle.dps_terms.specs.StoredSignature.{signature_code}
+use Rattle.dps_signature.specs.Signature.{Signature}
+use Rattle.dps_signature.specs.StoredSignature.{signature_code}
 use Rattle.dps_theory.specs.Theory.{Theory}
 use Rattle.dps_theory.specs.Stored.{theory_code}
 use Rattle.dps_process.specs.Models.{Model, Private, Classic, Eavesdrop}

@@ -3,8 +3,9 @@ use Rattle.std.specs.Prelude.{◌≡◌, ◌≢◌, ◌⊎◌, ◌↔◌, ℕ, �
 use Rattle.dps_branch.specs.declared.Side.{Side}
 use Rattle.dps_branch.specs.Sides.{opposite}
 use Rattle.dps_terms.specs.Tree.{var, Tree, StandsIn}
-use Rattle.dps_terms.specs.Signature.{Signature, shapes}
-use Rattle.dps_terms.specs.Kinds.{IsClosed, IsFrameMessage, IsOver, IsPartTerm, IsRecipe}
+use Rattle.dps_signature.specs.Signature.{Signature, shapes}
+use Rattle.dps_terms.specs.Kinds.{IsClosed}
+use Rattle.dps_signature.specs.Kinds.{IsFrameMessage, IsOver, IsPartTerm, IsRecipe}
 use Rattle.dps_theory.specs.Theory.{Theory}
 use Rattle.dps_theory.specs.Evaluation.{Evaluates}
 use Rattle.dps_theory.specs.Frames.{HasValue, IsFrame}

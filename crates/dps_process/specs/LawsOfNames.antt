@@ -1,7 +1,7 @@
 -- What a reader expects of the names that are declared.
 use Rattle.std.specs.Prelude.{◌≡◌, List}
 use Rattle.dps_terms.specs.Tree.{Tree}
-use Rattle.dps_terms.specs.Signature.{Signature, shapes}
+use Rattle.dps_signature.specs.Signature.{Signature, shapes}
 use Rattle.dps_theory.specs.Theory.{Theory}
 use Rattle.dps_theory.specs.Frames.{IsFrame, AreStaticallyEquivalent}
 use Rattle.dps_process.specs.Problem.{IsLawfulTheory}

@@ -2,8 +2,8 @@
 use Rattle.std.specs.Prelude.{◌≡◌, ◌≢◌, ℕ, Bool, IsTrue, List, All}
 use Rattle.dps_terms.specs.Tree.{Leaf, var, Tree, StandsIn}
 use Rattle.dps_terms.specs.Replace.{replace}
-use Rattle.dps_terms.specs.Signature.{Signature, Name}
-use Rattle.dps_terms.specs.Names.{with_name}
+use Rattle.dps_signature.specs.Signature.{Signature, Name}
+use Rattle.dps_signature.specs.Names.{with_name}
 use Rattle.dps_theory.specs.Theory.{Theory}
 use Rattle.dps_process.specs.Models.{Model}
 use Rattle.dps_process.specs.Process.{Process, but_for, replace_in, put, EachBinder}

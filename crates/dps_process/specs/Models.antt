@@ -1,7 +1,7 @@
 -- The models of communication: on which channels two parts of a process communicate unseen, and on which the attacker
 -- overhears them.
 use Rattle.std.specs.Prelude.{ℕ, ⊤}
-use Rattle.dps_terms.specs.Signature.{Signature, IsPublic, IsPrivate}
+use Rattle.dps_signature.specs.Signature.{Signature, IsPublic, IsPrivate}
 use Rattle.dps_process.specs.declared.model.CommModel.{CommModel}
 use Rattle.dps_process.specs.declared.model.CommModel.TheVariants.{Private as PrivateValue, Classic as ClassicValue}
 

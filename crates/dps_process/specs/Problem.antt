@@ -2,11 +2,11 @@
 use Rattle.std.specs.Prelude.{◌≡◌, ℕ, ◌+◌, ◌<◌, ◌≤◌, ◌^◌, List, length, Option, Some, None, slice_get}
 use Rattle.dps_branch.specs.declared.Side.{Side}
 use Rattle.dps_branch.specs.declared.Side.TheVariants.{Left, Right}
-use Rattle.dps_terms.specs.declared.SymKind.{SymKind}
-use Rattle.dps_terms.specs.declared.SymKind.TheVariants.{Constructor, Destructor}
+use Rattle.dps_signature.specs.declared.SymKind.{SymKind}
+use Rattle.dps_signature.specs.declared.SymKind.TheVariants.{Constructor, Destructor}
 use Rattle.dps_terms.specs.Tree.{Tree, Trees, leaf, app, none, more}
-use Rattle.dps_terms.specs.Signature.{Signature, Shape, shapes}
-use Rattle.dps_terms.specs.Kinds.{IsOver, IsSourceTerm}
+use Rattle.dps_signature.specs.Signature.{Signature, Shape, shapes}
+use Rattle.dps_signature.specs.Kinds.{IsOver, IsSourceTerm}
 use Rattle.dps_theory.specs.Theory.{Rule, Theory, HasRule, IsAccepted, HasPlainRules}
 use Rattle.dps_process.specs.Models.{Model}
 use Rattle.dps_process.specs.Process.{Process, IsClosedProcess, EachTerm, EachChannel, EachBinder, size, term_sum}

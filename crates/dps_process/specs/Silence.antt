@@ -2,7 +2,7 @@
 -- fact of the part beside others.
 use Rattle.std.specs.Prelude.{◌⊎◌, ◌↔◌, ℕ, List, [], ◌∷◌, ◌++◌}
 use Rattle.dps_terms.specs.Tree.{Tree}
-use Rattle.dps_terms.specs.Signature.{Signature}
+use Rattle.dps_signature.specs.Signature.{Signature}
 use Rattle.dps_theory.specs.Theory.{Theory, IsAccepted, HasPlainRules}
 use Rattle.dps_theory.specs.Evaluation.{Evaluates, IsMessage, AreEqual}
 use Rattle.dps_process.specs.Process.{Process, nil, parallel, choice, conditional, bind, output, put}

@@ -1,13 +1,13 @@
 //! Problems as values.
 ghost use Rattle.std.specs.Prelude.{◌≡◌, ◌↔◌, IsTrue, IsSome, IfSome};
-ghost use Rattle.dps_terms.specs.Signature.{IsPrivate};
+ghost use Rattle.dps_signature.specs.Signature.{IsPrivate};
 ghost use Rattle.dps_process.specs.Problem.{side_of, IsLawful, IsLawfulTheory, HasHighBinders};
 ghost use Rattle.dps_process.specs.Kept.{IsKept};
 ghost use Rattle.dps_process.specs.Models.{MayMeet, model_of};
 
 use crate::{CommModel, Process};
 use dps_branch::Side;
-use dps_terms::Signature;
+use dps_signature::Signature;
 use dps_theory::Theory;
 use std::marker::Model;
 

@@ -1,6 +1,7 @@
 //! A table of processes, one on a long path, and a problem.
 use crate::{CommModel, Problem, Process};
-use dps_terms::{NoMemory, Signature, Subst, Sym, Term, is_identifier};
+use dps_signature::{Signature, is_identifier};
+use dps_terms::{NoMemory, Subst, Sym, Term};
 use dps_theory::Theory;
 use std::alloc::Global;
 use std::test::Fail;

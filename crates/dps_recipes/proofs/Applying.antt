@@ -4,11 +4,11 @@ use Rattle.std.specs.Prelude.{Option, slice_get, MatchOption}
 use Rattle.std.specs.Option.{option_map, option_eq}
 use Rattle.std.proofs.lemmas.Bool.{cases_Bool, eqb-true, eq-eqb}
 use Rattle.dps_terms.specs.declared.Sym.{Sym}
-use Rattle.dps_terms.specs.declared.SymKind.{SymKind}
-use Rattle.dps_terms.specs.declared.SymKind.TheVariants.{Constructor, Destructor}
+use Rattle.dps_signature.specs.declared.SymKind.{SymKind}
+use Rattle.dps_signature.specs.declared.SymKind.TheVariants.{Constructor, Destructor}
 use Rattle.dps_terms.specs.Tree.{Tree, Trees, leaf, app, trees, count}
 use Rattle.dps_terms.specs.Replace.{substitute, substitute_all}
-use Rattle.dps_terms.specs.Signature.{Shape, HasShape}
+use Rattle.dps_signature.specs.Signature.{Shape, HasShape}
 use Rattle.dps_terms.proofs.Arguments.{count-trees}
 use Rattle.dps_theory.specs.Theory.{Rule, Theory, HasDestructorRoot, IsAccepted}
 use Rattle.dps_theory.specs.Evaluation.{Reduces}

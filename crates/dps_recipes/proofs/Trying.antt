@@ -8,7 +8,7 @@ use Rattle.dps_terms.specs.declared.borrowed.TermView.TheVariants.{App}
 use Rattle.dps_terms.specs.Tree.{Leaf, public, private, var, ax, entry, rigid, Tree, Trees, leaf, app}
 use Rattle.dps_terms.specs.Replace.{substitute}
 use Rattle.dps_terms.specs.Views.{leaf_view}
-use Rattle.dps_terms.specs.Signature.{Shape}
+use Rattle.dps_signature.specs.Signature.{Shape}
 use Rattle.dps_theory.specs.Theory.{Rule, Theory, HasDestructorRoot, IsAccepted}
 use Rattle.dps_theory.specs.Index.{has_root, places_from, places}
 use Rattle.dps_theory.proofs.Accepting.{contained}

@@ -3,14 +3,14 @@ use Rattle.std.proofs.Common.{◌≡◌, ℕ, zero, suc, ◌≤◌, List, [], �
 use Rattle.std.specs.Prelude.{◌⊎◌, Option, slice_get, MatchOption}
 use Rattle.std.proofs.lemmas.Option.{none-some}
 use Rattle.dps_terms.specs.declared.Sym.{Sym}
-use Rattle.dps_terms.specs.declared.SymKind.TheVariants.{Constructor, Destructor}
+use Rattle.dps_signature.specs.declared.SymKind.TheVariants.{Constructor, Destructor}
 use Rattle.dps_terms.specs.declared.PublicName.{PublicName}
 use Rattle.dps_terms.specs.declared.borrowed.TermView.{TermView}
 use Rattle.dps_terms.specs.declared.borrowed.TermView.TheVariants.{App, Public, Private, Var, Ax, Entry, Rigid}
 use Rattle.dps_terms.specs.Tree.{Leaf, public, private, var, ax, entry, rigid, Tree, Trees, leaf, app, none, more, list_of, trees, node_count, node_counts}
 use Rattle.dps_terms.specs.Replace.{replace, replace_all, numbered, handles_to, in_frame}
 use Rattle.dps_terms.specs.Views.{view_of, arguments}
-use Rattle.dps_terms.specs.Signature.{HasShape}
+use Rattle.dps_signature.specs.Signature.{HasShape}
 use Rattle.dps_terms.specs.Kinds.{IsName}
 use Rattle.dps_terms.proofs.Replacing.{replace_stays}
 use Rattle.dps_theory.specs.Theory.{Theory, IsAccepted}

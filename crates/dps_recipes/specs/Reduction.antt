@@ -1,10 +1,10 @@
 -- What rules make of a term at its root, and what a symbol gives over values.
 use Rattle.std.specs.Prelude.{◌≡◌, ◌<◌, ◌⊎◌, ℕ, List, ◌∷◌, take, drop, length, slice_get, Some, Contains, All}
 use Rattle.dps_terms.specs.declared.Sym.{Sym}
-use Rattle.dps_terms.specs.declared.SymKind.TheVariants.{Constructor, Destructor}
+use Rattle.dps_signature.specs.declared.SymKind.TheVariants.{Constructor, Destructor}
 use Rattle.dps_terms.specs.Tree.{Tree, Trees, trees, app, count}
 use Rattle.dps_terms.specs.Replace.{substitute}
-use Rattle.dps_terms.specs.Signature.{HasShape}
+use Rattle.dps_signature.specs.Signature.{HasShape}
 use Rattle.dps_theory.specs.Theory.{Rule, Theory}
 use Rattle.dps_theory.specs.Evaluation.{Reduces}
 

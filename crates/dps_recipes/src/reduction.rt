@@ -4,7 +4,8 @@ ghost use Rattle.dps_terms.specs.Tree.{trees};
 ghost use Rattle.dps_theory.specs.Theory.{IsAccepted};
 ghost use Rattle.dps_recipes.specs.Reduction.{DoesNotFit, IsInstance, IsStuck, IsReduct, HasAllAt, GivesNothing, PutsGiven, PutsReduct};
 
-use dps_terms::{NoMemory, Sym, SymKind, Term, TermStack};
+use dps_signature::SymKind;
+use dps_terms::{NoMemory, Sym, Term, TermStack};
 use dps_theory::{Rule, Theory};
 use dps_unify::matches;
 use std::alloc::Global;

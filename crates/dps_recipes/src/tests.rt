@@ -1,9 +1,8 @@
 //! Tables of rules and of recipes.
 use crate::reduction::rewritten;
 use crate::{Frame, evaluate, value};
-use dps_terms::{
-    AddRefusal, NoMemory, PublicName, Signature, Subst, Sym, SymKind, Term, is_identifier,
-};
+use dps_signature::{AddRefusal, Signature, SymKind, is_identifier};
+use dps_terms::{NoMemory, PublicName, Subst, Sym, Term};
 use dps_theory::{Rule, Theory};
 use std::alloc::Global;
 use std::process::Abort;

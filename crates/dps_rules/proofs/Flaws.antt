@@ -5,7 +5,7 @@ use Rattle.std.proofs.lemmas.List.{length-map}
 use Rattle.std.proofs.lemmas.Option.{slice_get_within, none-some}
 use Rattle.dps_lex.specs.declared.vocabulary.Place.{Place}
 use Rattle.dps_terms.specs.Tree.{Tree}
-use Rattle.dps_terms.specs.Signature.{shapes}
+use Rattle.dps_signature.specs.Signature.{shapes}
 use Rattle.dps_theory.specs.Theory.{Rule}
 use Rattle.dps_theory.specs.Projections.{projections}
 use Rattle.dps_theory.specs.Checking.{numbered_rule, HaveFault, by_itself, by_overlap, IsFirstFault, IsFirstOverlap}

@@ -2,7 +2,7 @@
 use Rattle.std.proofs.Common.{◌≡◌, ◌⊎◌, ℕ, ◌<◌, List, [], ◌∷◌, Option, Some, None, refl, sym, ◌∙◌, ap, subst, inl, inr, arith}
 use Rattle.dps_lex.specs.declared.vocabulary.Place.{Place}
 use Rattle.dps_terms.specs.Tree.{Tree, leaf, var}
-use Rattle.dps_terms.specs.Signature.{Signature, shapes}
+use Rattle.dps_signature.specs.Signature.{Signature, shapes}
 use Rattle.dps_terms.specs.Bindings.{bound, image}
 use Rattle.dps_unify.specs.Unifier.{IsMgu}
 use Rattle.dps_unify.specs.Order.{level_of, ComesBefore}

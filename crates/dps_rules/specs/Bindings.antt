@@ -1,10 +1,10 @@
 -- How a common instance of the left sides of two rules is written.
 use Rattle.std.specs.Prelude.{ℕ, ◌+◌, ◌-◌, nat_lt, if◌then◌else◌, List, [], ◌∷◌, ◌++◌, map, Option, Some, None, slice_get, unwrap_or, codes}
 use Rattle.dps_terms.specs.Tree.{Leaf, var, Tree}
-use Rattle.dps_terms.specs.Signature.{Signature}
+use Rattle.dps_signature.specs.Signature.{Signature}
 use Rattle.dps_terms.specs.Variables.{variables}
 use Rattle.dps_terms.specs.Bindings.{bound}
-use Rattle.dps_terms.specs.Text.{leaf_text, text_with}
+use Rattle.dps_signature.specs.Text.{leaf_text, text_with}
 use Rattle.dps_theory.specs.Overlaps.{room}
 use Rattle.dps_names.specs.Program.{WrittenRule}
 

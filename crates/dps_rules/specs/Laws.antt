@@ -1,6 +1,6 @@
 -- What a reader may expect of the theory of a program. Each of these statements is the contract of a function of the crate.
 use Rattle.dps_lex.specs.declared.vocabulary.Place.{Place}
-use Rattle.dps_terms.specs.Signature.{shapes}
+use Rattle.dps_signature.specs.Signature.{shapes}
 use Rattle.dps_theory.specs.Theory.{IsAccepted}
 use Rattle.dps_theory.specs.Checking.{HaveFault}
 use Rattle.dps_names.specs.Program.{Program}

@@ -2,7 +2,7 @@
 use Rattle.std.specs.Prelude.{◌≡◌, ℕ, zero, suc, List, ◌++◌, map, Option, Some, None, slice_get, string_bytes, ⊤}
 use Rattle.dps_lex.specs.declared.vocabulary.Place.{Place}
 use Rattle.dps_terms.specs.Tree.{Tree}
-use Rattle.dps_terms.specs.Signature.{shapes}
+use Rattle.dps_signature.specs.Signature.{shapes}
 use Rattle.dps_theory.specs.Theory.{Rule, Theory}
 use Rattle.dps_theory.specs.Projections.{projections}
 use Rattle.dps_theory.specs.Checking.{IsFirstFault, IsFirstOverlap}

@@ -5,7 +5,8 @@ ghost use Rattle.dps_rules.specs.Bindings.{variable_text, numbered_text, both_va
 ghost use Rattle.dps_rules.specs.Naming.{leaf_in, binding_in, bindings_in};
 
 use dps_names::WrittenRule;
-use dps_terms::{LeafWriter, NoMemory, Signature, Subst, Term, TermLeaf};
+use dps_signature::{LeafWriter, Signature, write_term};
+use dps_terms::{NoMemory, Subst, Term, TermLeaf};
 use std::alloc::{AllocError, Global};
 
 /// How variables are written: those of the second rule are raised.
@@ -107,8 +108,7 @@ fn binding_text(
     let mut text = String::new(alloc);
     write_variable(&mut text, naming, number)?;
     text.push_str("=")?;
-    term.whole()
-        .write(alloc, &mut text, naming.signature, &naming)?;
+    write_term(alloc, &mut text, term.whole(), naming.signature, &naming)?;
     Ok(text)
 }
 

@@ -1,6 +1,6 @@
 //! The theory of a program.
 ghost use Rattle.std.specs.Prelude.{◌≡◌, ◌<◌, ◌≤◌, map, length, Some, IfOk, IfErr};
-ghost use Rattle.dps_terms.specs.Signature.{shapes};
+ghost use Rattle.dps_signature.specs.Signature.{shapes};
 ghost use Rattle.dps_theory.specs.Conditions.{AreCheckable};
 ghost use Rattle.dps_theory.specs.Checking.{IsRefused, IsFirstFault, IsFirstOverlap};
 ghost use Rattle.dps_process.specs.Problem.{IsLawfulTheory};

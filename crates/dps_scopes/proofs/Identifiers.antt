@@ -6,8 +6,8 @@ use Rattle.std.specs.Str.{byte}
 use Rattle.std.proofs.lemmas.Bool.{eqb-true, eq-eqb, leb-true, le-leb}
 use Rattle.std.proofs.lemmas.Bool.Decides.{same_from_decides}
 use Rattle.std.proofs.lemmas.List.Sums.{AllPass-from_list_all, list_all-from_AllPass}
-use Rattle.dps_terms.specs.declared.SymKind.{SymKind}
-use Rattle.dps_terms.specs.Names.{IsIdentifier, IsSymbolText, IsWord, IsHandleText, is_letter, is_digit, is_name_byte}
+use Rattle.dps_signature.specs.declared.SymKind.{SymKind}
+use Rattle.dps_signature.specs.Names.{IsIdentifier, IsSymbolText, IsWord, IsHandleText, is_letter, is_digit, is_name_byte}
 use Rattle.dps_scopes.specs.Scopes.{is_word, is_handle, begins_as_projection, is_reserved}
 
 both : (a b : Bool) → (a && b) ≡ true → (a ≡ true) × (b ≡ true)

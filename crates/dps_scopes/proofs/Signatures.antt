@@ -1,9 +1,9 @@
 -- What a signature's names and symbols come to, one by one.
 use Rattle.std.proofs.Common.{◌≡◌, ◌≤◌, ◌<◌, ◌^◌, ℕ, zero, suc, ◌+◌, ◌-◌, List, [], ◌∷◌, ◌++◌, length, length-append, refl, sym, ap, subst, ◌∙◌, arith, append_assoc}
 use Rattle.std.proofs.lemmas.List.{append-nil}
-use Rattle.dps_terms.specs.Signature.{Symbol, Signature}
-use Rattle.dps_terms.specs.Names.{IsDeclaredText, projection_name, with_symbol}
-use Rattle.dps_terms.specs.declared.SymKind.TheVariants.{Destructor}
+use Rattle.dps_signature.specs.Signature.{Symbol, Signature}
+use Rattle.dps_signature.specs.Names.{IsDeclaredText, projection_name, with_symbol}
+use Rattle.dps_signature.specs.declared.SymKind.TheVariants.{Destructor}
 use Rattle.dps_scopes.specs.Scopes.{projections_from}
 use Rattle.dps_scopes.specs.Tuples.{HasSymbolsOf}
 use Rattle.dps_scopes.proofs.TupleTexts.{different, one_projection, projection_symbol}

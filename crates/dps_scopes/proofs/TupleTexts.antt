@@ -5,9 +5,9 @@ use Rattle.std.specs.Prelude.{slice_get}
 use Rattle.std.specs.Str.{byte}
 use Rattle.std.proofs.lemmas.Bool.{cases_Bool}
 use Rattle.std.proofs.lemmas.Slice.Eq.{bytes_eq-Decides}
-use Rattle.dps_terms.specs.declared.SymKind.TheVariants.{Constructor, Destructor}
-use Rattle.dps_terms.specs.Signature.{Symbol}
-use Rattle.dps_terms.specs.Names.{IsWord, tuple_name, projection_name}
+use Rattle.dps_signature.specs.declared.SymKind.TheVariants.{Constructor, Destructor}
+use Rattle.dps_signature.specs.Signature.{Symbol}
+use Rattle.dps_signature.specs.Names.{IsWord, tuple_name, projection_name}
 use Rattle.dps_scopes.specs.Scopes.{is_reserved, projections_from, tuple_symbols}
 use Rattle.dps_scopes.proofs.Identifiers.{unreserved}
 use Rattle.dps_scopes.proofs.FirstPlaces.{position-cons}

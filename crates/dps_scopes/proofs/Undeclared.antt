@@ -5,9 +5,9 @@ use Rattle.std.specs.Prelude.{IsSome, ⊤, if◌then◌else◌}
 use Rattle.std.proofs.lemmas.Bool.{cases_Bool, cases_lt}
 use Rattle.std.proofs.lemmas.Option.{none-some}
 use Rattle.std.proofs.lemmas.Slice.Eq.{bytes_eq-Decides}
-use Rattle.dps_terms.specs.declared.SymKind.TheVariants.{Constructor}
-use Rattle.dps_terms.specs.Signature.{Symbol, Name, Signature}
-use Rattle.dps_terms.specs.Names.{IsSymbolText, IsDeclaredText, tuple_name, projection_name, symbol_named, name_named, with_symbol, with_name}
+use Rattle.dps_signature.specs.declared.SymKind.TheVariants.{Constructor}
+use Rattle.dps_signature.specs.Signature.{Symbol, Name, Signature}
+use Rattle.dps_signature.specs.Names.{IsSymbolText, IsDeclaredText, tuple_name, projection_name, symbol_named, name_named, with_symbol, with_name}
 use Rattle.dps_scopes.specs.declared.meaning.Meaning.{Meaning}
 use Rattle.dps_scopes.specs.declared.meaning.Meaning.TheVariants.{Name as a_name, Function as a_function, Unknown as unknown}
 use Rattle.dps_scopes.specs.Definition.{Definition}

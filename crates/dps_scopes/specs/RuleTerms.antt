@@ -3,11 +3,11 @@ use Rattle.std.specs.Prelude.{ℕ, zero, suc, Bool, true, false, ◌&&◌, ◌==
 use Rattle.std.specs.Str.{bytes_eq}
 use Rattle.dps_lex.specs.declared.vocabulary.TokenKind.TheVariants as kinds
 use Rattle.dps_terms.specs.declared.PublicName.TheVariants.{Declared}
-use Rattle.dps_terms.specs.declared.SymKind.TheVariants.{Destructor}
+use Rattle.dps_signature.specs.declared.SymKind.TheVariants.{Destructor}
 use Rattle.dps_terms.specs.declared.Sym.{Sym}
 use Rattle.dps_terms.specs.Tree.{public, var, Tree, leaf, app, trees}
-use Rattle.dps_terms.specs.Signature.{Signature}
-use Rattle.dps_terms.specs.Names.{with_symbol}
+use Rattle.dps_signature.specs.Signature.{Signature}
+use Rattle.dps_signature.specs.Names.{with_symbol}
 use Rattle.dps_syntax.specs.Tree.{Lexeme, Parts, none, token, inner}
 use Rattle.dps_scopes.specs.declared.fault.NameCause.TheVariants.{UnknownName, WrongArity, WrongKind, LargeArity, ReservedName, PrivateInRule}
 use Rattle.dps_scopes.specs.Definition.{Definition}

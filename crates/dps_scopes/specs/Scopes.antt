@@ -4,9 +4,9 @@ use Rattle.std.specs.Prelude.{None, length, position, slice_get, unwrap_or}
 use Rattle.std.specs.Str.{byte, bytes_eq}
 use Rattle.std.specs.List.{list_all}
 use Rattle.std.specs.Option.{option_map}
-use Rattle.dps_terms.specs.declared.SymKind.TheVariants.{Constructor, Destructor}
-use Rattle.dps_terms.specs.Signature.{Symbol, Signature}
-use Rattle.dps_terms.specs.Names.{is_letter, is_digit, is_name_byte, tuple_name, projection_name, symbol_named, name_named}
+use Rattle.dps_signature.specs.declared.SymKind.TheVariants.{Constructor, Destructor}
+use Rattle.dps_signature.specs.Signature.{Symbol, Signature}
+use Rattle.dps_signature.specs.Names.{is_letter, is_digit, is_name_byte, tuple_name, projection_name, symbol_named, name_named}
 use Rattle.dps_scopes.specs.declared.meaning.Projection.{Projection}
 use Rattle.dps_scopes.specs.declared.meaning.Meaning.{Meaning}
 use Rattle.dps_scopes.specs.declared.meaning.Meaning.TheVariants.{Local as a_local, Name as a_name, Function as a_function, Process as a_process, Projection as a_projection, Unknown as unknown}

@@ -7,7 +7,7 @@ use Rattle.dps_lex.specs.declared.vocabulary.TokenKind.TheVariants as kinds
 use Rattle.dps_terms.specs.declared.PublicName.TheVariants.{Declared}
 use Rattle.dps_terms.specs.declared.Sym.{Sym}
 use Rattle.dps_terms.specs.Tree.{Leaf, public, private, var, Tree, leaf, app, trees}
-use Rattle.dps_terms.specs.Signature.{Signature, private_number}
+use Rattle.dps_signature.specs.Signature.{Signature, private_number}
 use Rattle.dps_syntax.specs.Tree.{Lexeme, Parts, none, token, inner}
 use Rattle.dps_scopes.specs.declared.fault.NameCause.TheVariants.{UnknownName, WrongArity, WrongKind, LargeArity}
 use Rattle.dps_scopes.specs.declared.written.Use.{Use}

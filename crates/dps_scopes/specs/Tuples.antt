@@ -1,7 +1,7 @@
 -- Tuples in a signature that grows.
 use Rattle.std.specs.Prelude.{◌≡◌, ◌++◌, ℕ, List, None}
-use Rattle.dps_terms.specs.Signature.{Symbol, Signature}
-use Rattle.dps_terms.specs.Names.{tuple_name, projection_name, symbol_named, IsDeclaredText}
+use Rattle.dps_signature.specs.Signature.{Symbol, Signature}
+use Rattle.dps_signature.specs.Names.{tuple_name, projection_name, symbol_named, IsDeclaredText}
 
 -- nothing that is declared has the text of the symbol of the tuples of length n, or of one of their projections
 pub record AreUndeclared (signature : Signature) (n : ℕ) : Type 0 where

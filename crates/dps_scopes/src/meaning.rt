@@ -6,7 +6,8 @@ ghost use Rattle.dps_scopes.specs.Blocks.{blocks};
 use crate::definitions::Definitions;
 use crate::scope::Scope;
 use crate::signature::SignatureBuilder;
-use dps_terms::{NoMemory, Sym, is_identifier};
+use dps_signature::is_identifier;
+use dps_terms::{NoMemory, Sym};
 
 /// `proj_i_n`: the i-th member of a tuple of length n.
 #[derive(Clone, Copy, Debug, PartialEq, Eq)]

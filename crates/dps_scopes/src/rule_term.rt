@@ -4,7 +4,7 @@ ghost use Rattle.dps_terms.specs.Tree.{leaf, var};
 ghost use Rattle.dps_syntax.specs.Parts.{parts_of};
 ghost use Rattle.dps_scopes.specs.Outcome.{Answers};
 ghost use Rattle.dps_scopes.specs.Terms.{count_inner};
-ghost use Rattle.dps_terms.specs.Names.{IsDeclaredText};
+ghost use Rattle.dps_signature.specs.Names.{IsDeclaredText};
 ghost use Rattle.dps_scopes.specs.Scopes.{begins_as_projection, declared_meaning};
 ghost use Rattle.dps_scopes.specs.RuleTerms.{variable_number, with_variable, identifier_in_rule, first_tree, tuple_in_rule, has_more, rule_term, rule_terms, declared_root, root_as};
 
@@ -17,8 +17,9 @@ use crate::term::MOST_ARGUMENTS;
 use crate::texts::Texts;
 use crate::{NameCause, NameRefusal};
 use dps_lex::TokenKind;
+use dps_signature::SymKind;
 use dps_syntax::{Leaf, Part};
-use dps_terms::{NoMemory, PublicName, Sym, SymKind, Term};
+use dps_terms::{NoMemory, PublicName, Sym, Term};
 use std::alloc::{AllocError, Global};
 
 /// A variable, by its number. A new one gets the next number.

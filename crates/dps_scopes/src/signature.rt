@@ -1,12 +1,13 @@
 //! The signature that grows, and what is added to it.
 ghost use Rattle.std.specs.Prelude.{◌≡◌, ◌≤◌, ◌<◌, ◌^◌, ◌+◌, ◌++◌, [], ℕ, false, length, None, IsTrue, IfOk, IfErr, OnOk, OnErr};
-ghost use Rattle.dps_terms.specs.Names.{IsDeclaredText, IsSymbolText, with_symbol, with_name, tuple_name, projection_name, symbol_named};
-ghost use Rattle.dps_terms.specs.Signature.{Signature as SignatureValue};
+ghost use Rattle.dps_signature.specs.Names.{IsDeclaredText, IsSymbolText, with_symbol, with_name, tuple_name, projection_name, symbol_named};
+ghost use Rattle.dps_signature.specs.Signature.{Signature as SignatureValue};
 ghost use Rattle.dps_scopes.specs.Scopes.{is_reserved, projections_from, tuple_at, with_tuple};
 ghost use Rattle.dps_scopes.specs.Tuples.{KeepsTuples, AreUndeclared, HasSymbolsOf};
 
 use crate::NameRefusal;
-use dps_terms::{AddRefusal, NoMemory, Signature, Sym, SymKind, projection_text, tuple_text};
+use dps_signature::{AddRefusal, Signature, SymKind, projection_text, tuple_text};
+use dps_terms::{NoMemory, Sym};
 use std::alloc::{AllocError, Global};
 use std::marker::Model;
 
@@ -23,8 +24,8 @@ pub struct SignatureBuilder {
 }
 
 impl Model for SignatureBuilder {
-    ghost use Rattle.dps_terms.specs.Signature.{Signature};
-    ghost use Rattle.dps_terms.specs.StoredSignature.{signature_code};
+    ghost use Rattle.dps_signature.specs.Signature.{Signature};
+    ghost use Rattle.dps_signature.specs.StoredSignature.{signature_code};
     ghost use Rattle.dps_scopes.specs.Tuples.{KeepsTuples};
 
     ghost Value = { Signature };

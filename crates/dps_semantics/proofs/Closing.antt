@@ -3,8 +3,8 @@ use Rattle.std.proofs.Common.{◌≡◌, ℕ, [], ◌∷◌, subst, Option, Some
 use Rattle.std.specs.Prelude.{Bool, true, false, cond, nat_eq, MatchOption}
 use Rattle.std.proofs.lemmas.Option.{none-some}
 use Rattle.dps_terms.specs.Tree.{Leaf, public, private, var, ax, entry, rigid, Tree, StandsIn}
-use Rattle.dps_terms.specs.Signature.{HasShape}
-use Rattle.dps_terms.specs.declared.SymKind.TheVariants.{Constructor}
+use Rattle.dps_signature.specs.Signature.{HasShape}
+use Rattle.dps_signature.specs.declared.SymKind.TheVariants.{Constructor}
 use Rattle.dps_terms.specs.Kinds.{IsName, IsNoVariable, AnySymbol, IsClosed}
 use Rattle.dps_terms.proofs.Building.{leaf_meets, built_of}
 use Rattle.dps_theory.specs.Theory.{Theory, IsAccepted, HasPlainRules}

@@ -6,8 +6,9 @@ use Rattle.dps_terms.specs.declared.Sym.{Sym}
 use Rattle.dps_terms.specs.declared.borrowed.TermView.TheVariants.{App}
 use Rattle.dps_terms.specs.Tree.{Leaf, public, private, var, ax, entry, rigid, Tree, Trees, leaf, app, none, more, list_of}
 use Rattle.dps_terms.specs.Views.{view_of, arguments}
-use Rattle.dps_terms.specs.Signature.{Signature, HasArity, shapes}
-use Rattle.dps_terms.specs.Kinds.{AreBuiltOf, AnySymbol, IsLeafOver, IsOver, IsRecipeLeaf, IsRecipe}
+use Rattle.dps_signature.specs.Signature.{Signature, HasArity, shapes}
+use Rattle.dps_terms.specs.Kinds.{AreBuiltOf, AnySymbol}
+use Rattle.dps_signature.specs.Kinds.{IsLeafOver, IsOver, IsRecipeLeaf, IsRecipe}
 use Rattle.dps_semantics.specs.Recipes.{IsRecipeKind, IsRecipeView, HasRecipeLeaves}
 
 module _ (signature : Signature) (m : ℕ) where

@@ -1,7 +1,7 @@
 -- Runs, by their last label.
 use Rattle.std.proofs.Common.{List, [], ◌∷◌, ◌++◌}
 use Rattle.dps_terms.specs.Tree.{Tree}
-use Rattle.dps_terms.specs.Signature.{Signature}
+use Rattle.dps_signature.specs.Signature.{Signature}
 use Rattle.dps_theory.specs.Theory.{Theory}
 use Rattle.dps_process.specs.Process.{Process}
 use Rattle.dps_process.specs.Models.{Model}

@@ -1,8 +1,9 @@
 -- What a label asks of a part, and what the part does.
 use Rattle.std.specs.Prelude.{◌≡◌, ◌+◌, List, [], ◌∷◌, length, Option, Some, None, ⊤}
 use Rattle.dps_terms.specs.Tree.{Tree}
-use Rattle.dps_terms.specs.Signature.{IsPublic}
-use Rattle.dps_terms.specs.Kinds.{IsClosed, IsRecipe}
+use Rattle.dps_signature.specs.Signature.{IsPublic}
+use Rattle.dps_terms.specs.Kinds.{IsClosed}
+use Rattle.dps_signature.specs.Kinds.{IsRecipe}
 use Rattle.dps_theory.specs.Theory.{Theory}
 use Rattle.dps_theory.specs.Evaluation.{Evaluates}
 use Rattle.dps_theory.specs.Frames.{HasValue}

@@ -1,6 +1,6 @@
 -- What silent steps reach, and lists of configurations, each in some order of its parts.
 use Rattle.std.specs.Prelude.{◌↔◌, List, [], All, Contains, ⊤}
-use Rattle.dps_terms.specs.Signature.{Signature}
+use Rattle.dps_signature.specs.Signature.{Signature}
 use Rattle.dps_theory.specs.Theory.{Theory}
 use Rattle.dps_process.specs.Process.{Process, input, output}
 use Rattle.dps_process.specs.Models.{Model}

@@ -1,6 +1,6 @@
 //! What a part does for a label.
 ghost use Rattle.std.specs.Prelude.{◌≡◌, ◌↔◌, ◌≤◌, ◌<◌, ◌^◌, length, IfOk, IfSome, MatchOption, IsTrue};
-ghost use Rattle.dps_terms.specs.Signature.{IsPublic};
+ghost use Rattle.dps_signature.specs.Signature.{IsPublic};
 ghost use Rattle.dps_theory.specs.Theory.{IsAccepted};
 ghost use Rattle.dps_process.specs.Labels.{label_of};
 ghost use Rattle.dps_semantics.specs.Asking.{IsAsked, IsNotAsked, IsClosedAsked, MovesAs, DoesNotMove};
@@ -9,7 +9,8 @@ use crate::putting::put;
 use crate::recipe::is_recipe;
 use dps_process::{Label, Problem, Process, ProcessView};
 use dps_recipes::{Frame, evaluate, value};
-use dps_terms::{NoMemory, Signature, Term};
+use dps_signature::Signature;
+use dps_terms::{NoMemory, Term};
 use dps_theory::Theory;
 use std::alloc::Global;
 

@@ -2,12 +2,13 @@
 use Rattle.std.proofs.Common.{◌≡◌, ℕ, ◌≤◌, List, [], ◌∷◌, length, refl, sym, ◌∙◌, ap, subst, arith, inl, inr}
 use Rattle.std.specs.Prelude.{Contains}
 use Rattle.dps_terms.specs.declared.Sym.{Sym}
-use Rattle.dps_terms.specs.declared.SymKind.TheVariants.{Constructor, Destructor}
+use Rattle.dps_signature.specs.declared.SymKind.TheVariants.{Constructor, Destructor}
 use Rattle.dps_terms.specs.Tree.{Leaf, public, private, var, ax, entry, rigid, Tree, Trees, leaf, app, none, more, count, IsAmong}
 use Rattle.dps_terms.specs.Replace.{replace_all, substitute, substitute_all, variables_to, handles_to, in_frame, entries_to, put_entries}
 use Rattle.dps_terms.specs.Variables.{variables}
-use Rattle.dps_terms.specs.Signature.{Signature, HasShape, HasArity, shapes}
-use Rattle.dps_terms.specs.Kinds.{AreBuiltOf, AnySymbol, IsRecipe, IsRecipeLeaf}
+use Rattle.dps_signature.specs.Signature.{Signature, HasShape, HasArity, shapes}
+use Rattle.dps_terms.specs.Kinds.{AreBuiltOf, AnySymbol}
+use Rattle.dps_signature.specs.Kinds.{IsRecipe, IsRecipeLeaf}
 use Rattle.dps_terms.proofs.Building.{count-replace_all, built_among}
 use Rattle.dps_terms.proofs.Replacing.{keeps_among}
 use Rattle.dps_terms.proofs.Listing.{variables_are_those}

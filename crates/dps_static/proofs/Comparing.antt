@@ -4,8 +4,9 @@ use Rattle.std.specs.Prelude.{Option}
 use Rattle.std.proofs.lemmas.Option.{slice_get-get_or, slice_get_within}
 use Rattle.dps_terms.specs.Tree.{public, private, var, ax, entry, rigid, Tree, Trees, leaf, app, none, more, StandsIn, IsAmong, itself, below, in_first, in_rest}
 use Rattle.dps_terms.specs.Replace.{replace_all, numbered, handles_to, in_frame, put_entries}
-use Rattle.dps_terms.specs.Signature.{Signature, HasArity, shapes}
-use Rattle.dps_terms.specs.Kinds.{AreBuiltOf, AnySymbol, IsRecipe, IsRecipeLeaf}
+use Rattle.dps_signature.specs.Signature.{Signature, HasArity, shapes}
+use Rattle.dps_terms.specs.Kinds.{AreBuiltOf, AnySymbol}
+use Rattle.dps_signature.specs.Kinds.{IsRecipe, IsRecipeLeaf}
 use Rattle.dps_terms.proofs.Building.{leaf_meets}
 use Rattle.dps_theory.specs.Theory.{Theory, IsAccepted, HasPlainRules, IsRuleLeaf}
 use Rattle.dps_theory.specs.Evaluation.{Evaluates}

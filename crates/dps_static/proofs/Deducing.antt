@@ -1,10 +1,11 @@
 -- What is built from the kept trees has a recipe, and what has a recipe is built.
 use Rattle.std.proofs.Common.{zero, List, [], ◌∷◌, length, refl, sym, subst}
-use Rattle.dps_terms.specs.declared.SymKind.TheVariants.{Constructor}
+use Rattle.dps_signature.specs.declared.SymKind.TheVariants.{Constructor}
 use Rattle.dps_terms.specs.Tree.{Tree}
 use Rattle.dps_terms.specs.Replace.{put_entries}
-use Rattle.dps_terms.specs.Signature.{Signature, HasShape}
-use Rattle.dps_terms.specs.Kinds.{AnyLeaf, IsName, IsOver, IsConstructorTerm}
+use Rattle.dps_signature.specs.Signature.{Signature, HasShape}
+use Rattle.dps_terms.specs.Kinds.{AnyLeaf, IsName}
+use Rattle.dps_signature.specs.Kinds.{IsOver, IsConstructorTerm}
 use Rattle.dps_terms.proofs.Building.{built_weaker}
 use Rattle.dps_theory.specs.Theory.{Theory, IsAccepted, HasPlainRules}
 use Rattle.dps_theory.specs.Frames.{IsFrame, HasValue}

@@ -3,11 +3,12 @@ use Rattle.std.proofs.Common.{◌≡◌, ℕ, zero, suc, ◌<◌, ◌≤◌, Lis
 use Rattle.std.specs.Prelude.{◌⊎◌, ◌↔◌, All}
 use Rattle.std.proofs.lemmas.Bool.{cases_lt}
 use Rattle.std.proofs.lemmas.Option.{slice_get_within, get_or_from_slice_get}
-use Rattle.dps_terms.specs.declared.SymKind.TheVariants.{Constructor}
+use Rattle.dps_signature.specs.declared.SymKind.TheVariants.{Constructor}
 use Rattle.dps_terms.specs.Tree.{Leaf, public, private, var, ax, entry, rigid, Tree, Trees, leaf, app, none, more}
 use Rattle.dps_terms.specs.Replace.{entries_to, put_entries}
-use Rattle.dps_terms.specs.Signature.{Signature, HasShape, HasArity, shapes}
-use Rattle.dps_terms.specs.Kinds.{AreBuiltOf, IsName, IsFrameLeaf, IsPlain, IsOver, IsLeafOver, IsDeclared, IsRecipe, IsKnowledgeTree, IsKnowledgeLeaf, NoRigidName}
+use Rattle.dps_signature.specs.Signature.{Signature, HasShape, HasArity, shapes}
+use Rattle.dps_terms.specs.Kinds.{AreBuiltOf, IsName, IsFrameLeaf, IsKnowledgeTree, IsKnowledgeLeaf, NoRigidName}
+use Rattle.dps_signature.specs.Kinds.{IsPlain, IsOver, IsLeafOver, IsDeclared, IsRecipe}
 use Rattle.dps_terms.proofs.Building.{count-replace_all, built_weaker}
 use Rattle.dps_theory.specs.Theory.{Theory}
 use Rattle.dps_theory.specs.Frames.{IsFrame, AreStaticallyEquivalent}

@@ -3,13 +3,14 @@ use Rattle.std.proofs.Common.{◌≡◌, ℕ, ◌+◌, ◌-◌, List, refl, arit
 use Rattle.std.specs.Prelude.{cond}
 use Rattle.std.proofs.Math.Dec.{ltb}
 use Rattle.std.proofs.lemmas.Bool.{lt-ltb, ltb-true, false_from_ne_true}
-use Rattle.dps_terms.specs.declared.SymKind.TheVariants.{Constructor}
+use Rattle.dps_signature.specs.declared.SymKind.TheVariants.{Constructor}
 use Rattle.dps_terms.specs.declared.PublicName.{PublicName}
 use Rattle.dps_terms.specs.declared.PublicName.TheVariants.{Declared, At}
 use Rattle.dps_terms.specs.Tree.{Leaf, public, private, var, ax, entry, rigid, Tree, Trees, leaf, app, none, more}
 use Rattle.dps_terms.specs.Replace.{replace, rigid_names_to, put_entries}
-use Rattle.dps_terms.specs.Signature.{Shape, HasShape}
-use Rattle.dps_terms.specs.Kinds.{AreBuiltOf, AnySymbol, IsNoVariable, IsKnowledgeLeaf, IsKnowledgeTree, NoRigidName, IsFrameLeaf, IsFrameMessage}
+use Rattle.dps_signature.specs.Signature.{Shape, HasShape}
+use Rattle.dps_terms.specs.Kinds.{AreBuiltOf, AnySymbol, IsNoVariable, IsKnowledgeLeaf, IsKnowledgeTree, NoRigidName, IsFrameLeaf}
+use Rattle.dps_signature.specs.Kinds.{IsFrameMessage}
 use Rattle.dps_terms.proofs.Building.{built_weaker}
 use Rattle.dps_theory.proofs.FreshNames.{LeafBelow}
 use Rattle.dps_static.specs.Ways.{AnyName, AnyRigid, IsWay, IsOpenWay}

@@ -4,17 +4,20 @@ use Rattle.std.specs.Prelude.{◌⊎◌, All}
 use Rattle.std.proofs.lemmas.Option.{none-some, slice_get_within, slice_get-get_or}
 use Rattle.std.proofs.lemmas.List.Elements.{All-push}
 use Rattle.dps_terms.specs.declared.Sym.{Sym}
-use Rattle.dps_terms.specs.declared.SymKind.TheVariants.{Constructor, Destructor}
+use Rattle.dps_signature.specs.declared.SymKind.TheVariants.{Constructor, Destructor}
 use Rattle.dps_terms.specs.declared.PublicName.TheVariants.{At}
 use Rattle.dps_terms.specs.Tree.{Leaf, public, private, var, ax, entry, rigid, Tree, Trees, leaf, app}
 use Rattle.dps_terms.specs.Tree.{none, more, count, IsSubterm, IsAmong, IsStrictSubterm, itself, below, in_first, in_rest, strictly}
 use Rattle.dps_terms.specs.Replace.{replace, substitute, substitute_all, variables_to, rigid_names_to, entries_to, numbered, put_entries}
 use Rattle.dps_terms.specs.Bindings.{bound}
 use Rattle.dps_terms.specs.Variables.{variables}
-use Rattle.dps_terms.specs.Signature.{Signature, Shape, HasShape, HasArity, shapes}
-use Rattle.dps_terms.specs.Kinds.{IsBuiltOf, AreBuiltOf, AnyLeaf, AnySymbol, IsNoVariable, IsName, IsPlain}
-use Rattle.dps_terms.specs.Kinds.{IsClosed, IsOver, IsLeafOver, IsRecipe, IsConstructorTerm, AreConstructorTerms, IsKnowledgeLeaf, NoRigidName}
-use Rattle.dps_terms.proofs.Building.{built_subterm, built_weaker, built_instance, built_instances, closed_stays, count-replace_all, substitution_stays_over, knowledge_becomes_recipes}
+use Rattle.dps_signature.specs.Signature.{Signature, Shape, HasShape, HasArity, shapes}
+use Rattle.dps_terms.specs.Kinds.{IsBuiltOf, AreBuiltOf, AnyLeaf, AnySymbol, IsNoVariable, IsName}
+use Rattle.dps_signature.specs.Kinds.{IsPlain}
+use Rattle.dps_terms.specs.Kinds.{IsClosed, IsKnowledgeLeaf, NoRigidName}
+use Rattle.dps_signature.specs.Kinds.{IsOver, IsLeafOver, IsRecipe, IsConstructorTerm, AreConstructorTerms}
+use Rattle.dps_terms.proofs.Building.{built_subterm, built_weaker, built_instance, built_instances, closed_stays, count-replace_all}
+use Rattle.dps_signature.proofs.Instances.{substitution_stays_over, knowledge_becomes_recipes}
 use Rattle.dps_terms.proofs.Replacing.{keeps_among}
 use Rattle.dps_terms.proofs.Subterms.{nested}
 use Rattle.dps_unify.proofs.Trees.{in_leaf}

@@ -6,8 +6,8 @@ use Rattle.dps_terms.specs.declared.Sym.{Sym}
 use Rattle.dps_terms.specs.Tree.{Tree, Trees, ax, leaf, app, trees}
 use Rattle.dps_terms.specs.Views.{arguments}
 use Rattle.dps_terms.specs.Replace.{substitute, substitute_all, in_frame, put_entries}
-use Rattle.dps_terms.specs.Signature.{Signature}
-use Rattle.dps_terms.specs.Kinds.{IsRecipe}
+use Rattle.dps_signature.specs.Signature.{Signature}
+use Rattle.dps_signature.specs.Kinds.{IsRecipe}
 use Rattle.dps_theory.specs.Theory.{Rule, Theory, HasRule}
 use Rattle.dps_theory.specs.Evaluation.{Evaluates, Reduces}
 use Rattle.dps_theory.specs.Frames.{IsFrame}

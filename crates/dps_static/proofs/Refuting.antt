@@ -2,7 +2,7 @@
 use Rattle.std.proofs.Common.{◌≡◌, List, length, Some, None, sym, subst, inl, inr}
 use Rattle.std.specs.Prelude.{Option, MatchOption}
 use Rattle.dps_terms.specs.Tree.{Tree}
-use Rattle.dps_terms.specs.Signature.{Signature}
+use Rattle.dps_signature.specs.Signature.{Signature}
 use Rattle.dps_theory.specs.Theory.{Theory, IsAccepted, HasPlainRules}
 use Rattle.dps_theory.specs.Frames.{Separates}
 use Rattle.dps_static.specs.Saturation.{IsCommonSignature, AreValuesOf, IsSaturation}

@@ -2,13 +2,14 @@
 use Rattle.std.proofs.Common.{◌≡◌, ℕ, List, length, refl, sym, ◌∙◌, subst, inl, inr}
 use Rattle.std.specs.Prelude.{◌⊎◌}
 use Rattle.dps_terms.specs.declared.Sym.{Sym}
-use Rattle.dps_terms.specs.declared.SymKind.TheVariants.{Constructor, Destructor}
+use Rattle.dps_signature.specs.declared.SymKind.TheVariants.{Constructor, Destructor}
 use Rattle.dps_terms.specs.declared.PublicName.{PublicName}
 use Rattle.dps_terms.specs.declared.PublicName.TheVariants.{Declared, At}
 use Rattle.dps_terms.specs.Tree.{Leaf, public, private, var, ax, entry, rigid, Tree, Trees, leaf, app, none, more, count, StandsIn}
 use Rattle.dps_terms.specs.Replace.{replace, replace_all, rigid_names_to, attacker_names_to, put_entries}
-use Rattle.dps_terms.specs.Signature.{HasShape}
-use Rattle.dps_terms.specs.Kinds.{AreBuiltOf, AnySymbol, IsNoVariable, IsKnowledgeLeaf, IsConstructorTerm, AreConstructorTerms, NoRigidName}
+use Rattle.dps_signature.specs.Signature.{HasShape}
+use Rattle.dps_terms.specs.Kinds.{AreBuiltOf, AnySymbol, IsNoVariable, IsKnowledgeLeaf, NoRigidName}
+use Rattle.dps_signature.specs.Kinds.{IsConstructorTerm, AreConstructorTerms}
 use Rattle.dps_terms.proofs.Replacing.{replace_undone}
 use Rattle.dps_terms.proofs.Building.{count-replace_all}
 use Rattle.dps_theory.specs.Theory.{Theory, IsAccepted, HasPlainRules}

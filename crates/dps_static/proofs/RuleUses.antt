@@ -2,12 +2,13 @@
 use Rattle.std.proofs.Common.{◌≡◌, ℕ, zero, suc, ◌<◌, List, length, slice_get, get_or, Some, refl, sym, subst, arith, inl, inr}
 use Rattle.std.proofs.lemmas.Option.{slice_get-get_or}
 use Rattle.dps_terms.specs.declared.Sym.{Sym}
-use Rattle.dps_terms.specs.declared.SymKind.TheVariants.{Constructor, Destructor}
+use Rattle.dps_signature.specs.declared.SymKind.TheVariants.{Constructor, Destructor}
 use Rattle.dps_terms.specs.Tree.{Leaf, public, private, var, ax, entry, rigid, Tree, Trees, leaf, app, none, more, count}
 use Rattle.dps_terms.specs.Replace.{substitute, substitute_all, entries_to, put_entries}
 use Rattle.dps_terms.specs.Bindings.{bound}
-use Rattle.dps_terms.specs.Signature.{HasShape}
-use Rattle.dps_terms.specs.Kinds.{AreBuiltOf, IsName, IsPlain, IsConstructorTerm, AreConstructorTerms}
+use Rattle.dps_signature.specs.Signature.{HasShape}
+use Rattle.dps_terms.specs.Kinds.{AreBuiltOf, IsName}
+use Rattle.dps_signature.specs.Kinds.{IsPlain, IsConstructorTerm, AreConstructorTerms}
 use Rattle.dps_terms.proofs.Building.{count-replace_all}
 use Rattle.dps_theory.specs.Theory.{Rule, Theory, HasRule, IsAccepted, HasDestructorRoot}
 use Rattle.dps_theory.specs.Evaluation.{Evaluates, Reduces}

@@ -2,11 +2,12 @@
 use Rattle.std.proofs.Common.{◌≡◌, ℕ, zero, suc, List, length, slice_get, unwrap_or, Some, None, refl, sym, subst, inl, inr}
 use Rattle.std.specs.Prelude.{Option}
 use Rattle.dps_terms.specs.declared.Sym.{Sym}
-use Rattle.dps_terms.specs.declared.SymKind.TheVariants.{Constructor}
+use Rattle.dps_signature.specs.declared.SymKind.TheVariants.{Constructor}
 use Rattle.dps_terms.specs.Tree.{Leaf, public, private, var, ax, entry, rigid, Tree, Trees, leaf, app, count, StandsIn, IsSubterm}
 use Rattle.dps_terms.specs.Replace.{numbered, handles_to, in_frame}
-use Rattle.dps_terms.specs.Signature.{Signature, HasShape, HasArity, shapes}
-use Rattle.dps_terms.specs.Kinds.{IsBuiltOf, IsName, IsPlain, IsOver, IsLeafOver, IsRecipe, IsRecipeLeaf}
+use Rattle.dps_signature.specs.Signature.{Signature, HasShape, HasArity, shapes}
+use Rattle.dps_terms.specs.Kinds.{IsBuiltOf, IsName}
+use Rattle.dps_signature.specs.Kinds.{IsPlain, IsOver, IsLeafOver, IsRecipe, IsRecipeLeaf}
 use Rattle.dps_terms.proofs.Building.{built_subterm, built_of, built_instance, leaf_meets}
 use Rattle.dps_theory.specs.Theory.{Rule, Theory, HasRule, IsAccepted, HasPlainRules}
 use Rattle.dps_theory.specs.Frames.{IsFrame, HasValue}

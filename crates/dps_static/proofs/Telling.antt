@@ -3,13 +3,15 @@ use Rattle.std.proofs.Common.{◌≡◌, ℕ, List, length, slice_get, unwrap_or
 use Rattle.std.specs.Prelude.{Option, All}
 use Rattle.std.proofs.lemmas.Option.{slice_get_within, slice_get-get_or, get_or_from_slice_get}
 use Rattle.dps_terms.specs.declared.Sym.{Sym}
-use Rattle.dps_terms.specs.declared.SymKind.TheVariants.{Constructor, Destructor}
+use Rattle.dps_signature.specs.declared.SymKind.TheVariants.{Constructor, Destructor}
 use Rattle.dps_terms.specs.Tree.{Leaf, public, private, var, ax, entry, rigid, Tree, Trees, leaf, app, none, more, count}
 use Rattle.dps_terms.specs.Replace.{replace, substitute, substitute_all, variables_to, rigid_names_to, entries_to, put_entries}
 use Rattle.dps_terms.specs.Bindings.{bound}
-use Rattle.dps_terms.specs.Signature.{Signature, HasShape, HasArity, shapes}
-use Rattle.dps_terms.specs.Kinds.{AnyLeaf, IsName, IsPlain, IsOver, IsLeafOver, IsRecipe, IsConstructorTerm, AreConstructorTerms}
-use Rattle.dps_terms.proofs.Building.{count-replace_all, built_subterm, built_weaker, built_instance, substitution_stays_over, knowledge_becomes_recipes}
+use Rattle.dps_signature.specs.Signature.{Signature, HasShape, HasArity, shapes}
+use Rattle.dps_terms.specs.Kinds.{AnyLeaf, IsName}
+use Rattle.dps_signature.specs.Kinds.{IsPlain, IsOver, IsLeafOver, IsRecipe, IsConstructorTerm, AreConstructorTerms}
+use Rattle.dps_terms.proofs.Building.{count-replace_all, built_subterm, built_weaker, built_instance}
+use Rattle.dps_signature.proofs.Instances.{substitution_stays_over, knowledge_becomes_recipes}
 use Rattle.dps_theory.specs.Theory.{Theory, HasDestructorRoot, HasConstructorArguments}
 use Rattle.dps_theory.specs.Evaluation.{Evaluates, Reduces}
 use Rattle.dps_theory.specs.Frames.{IsFrame, HasValue, Succeeds, Separates, succeeds, equal}

@@ -4,8 +4,9 @@ use Rattle.dps_terms.specs.declared.Sym.{Sym}
 use Rattle.dps_terms.specs.declared.PublicName.TheVariants.{At}
 use Rattle.dps_terms.specs.Tree.{public, Tree, Trees, leaf, app, IsSubterm}
 use Rattle.dps_terms.specs.Replace.{substitute, substitute_all}
-use Rattle.dps_terms.specs.Signature.{Signature, shapes}
-use Rattle.dps_terms.specs.Kinds.{IsPlain, IsClosed, IsOver, IsRecipe}
+use Rattle.dps_signature.specs.Signature.{Signature, shapes}
+use Rattle.dps_terms.specs.Kinds.{IsClosed}
+use Rattle.dps_signature.specs.Kinds.{IsPlain, IsOver, IsRecipe}
 use Rattle.dps_theory.specs.Theory.{Rule, Theory, HasRule}
 use Rattle.dps_theory.specs.Conditions.{IsRuleOver}
 use Rattle.dps_theory.specs.Frames.{IsFrame, HasValue}

@@ -1,7 +1,8 @@
 //! Tables of frames, told apart or not, and by which test.
 use crate::{Comparison, Test, compare, deduce, saturate};
 use dps_recipes::Frame;
-use dps_terms::{AddRefusal, NoMemory, PublicName, Signature, Sym, SymKind, Term, is_identifier};
+use dps_signature::{AddRefusal, Signature, SymKind, is_identifier};
+use dps_terms::{NoMemory, PublicName, Sym, Term};
 use dps_theory::{Rule, Theory, are_checkable};
 use std::alloc::Global;
 use std::process::Abort;

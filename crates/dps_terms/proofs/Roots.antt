@@ -1,6 +1,5 @@
 -- What the first cell of a tree shows.
 use Rattle.std.proofs.Common.{◌≡◌, ℕ, length, refl, arith}
-use Rattle.std.specs.Prelude.{Bool, true, false, ◌&&◌}
 use Rattle.dps_terms.specs.declared.PublicName.TheVariants.{Declared, At}
 use Rattle.dps_terms.specs.declared.cells.Cell.{Cell}
 use Rattle.dps_terms.specs.declared.cells.Cell.TheVariants.{App, Declared as DeclaredCell, At as AtCell, Private, Var, Ax, Entry, Rigid}

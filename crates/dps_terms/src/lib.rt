@@ -1,20 +1,17 @@
-//! Terms, substitutions and signatures.
+//! Terms and substitutions.
 //!
 //! The definitions stand in `specs/`: a term is a finite tree (`Tree`), and substitutions, frames put for handles and
 //! renamings are one operation on it (`Replace`). The laws of these definitions are the contracts of `laws`. Contracts
-//! see a `Term` as such a tree, a `Subst` as the list of its pairs (`Bindings`) and a `Signature` as the lists of its
-//! symbols and names.
+//! see a `Term` as such a tree, and a `Subst` as the list of its pairs (`Bindings`).
 #![tactic(auto)]
 
 mod borrowed;
 mod cells;
 mod digests;
 pub mod laws;
-mod names;
+mod list;
 mod nodes;
-mod printing;
 mod replacement;
-mod signature;
 mod stack;
 mod subst;
 mod term;
@@ -23,10 +20,8 @@ mod tests;
 
 pub use borrowed::{TermRef, TermView};
 pub use digests::mixed;
-pub use names::{is_identifier, projection_text, tuple_text};
-pub use printing::LeafWriter;
+pub use list::TermList;
 pub use replacement::Replacement;
-pub use signature::{AddRefusal, Signature};
 pub use stack::TermStack;
 use std::alloc::AllocError;
 pub use subst::Subst;
@@ -39,15 +34,6 @@ pub type NoMemory = AllocError;
 #[derive(Clone, Copy, Debug, PartialEq, Eq)]
 pub struct Sym {
     pub number: u32,
-}
-
-/// Whether a symbol builds messages or takes them apart.
-#[derive(Clone, Copy, Debug, PartialEq, Eq)]
-pub enum SymKind {
-    /// Stands in messages.
-    Constructor,
-    /// Is computed away by the rules of a theory, or fails.
-    Destructor,
 }
 
 /// A name that the attacker has.
@@ -75,11 +61,11 @@ pub enum TermLeaf {
     Rigid(u64),
 }
 
-/// Terms, substitutions and signatures may be handed to other threads and be shared with them.
+/// Terms and substitutions may be handed to other threads and be shared with them.
 pub fn are_shared() {
     is_shared::<Term>();
+    is_shared::<TermList>();
     is_shared::<Subst>();
-    is_shared::<Signature>();
 }
 
 fn is_shared<T: Send + Sync>() {}

@@ -9,7 +9,7 @@ use Rattle.dps_terms.specs.declared.Sym.{Sym}
 use Rattle.dps_terms.specs.declared.TermView.TheVariants.{App}
 use Rattle.dps_terms.specs.Tree.{Tree, leaf, app}
 use Rattle.dps_terms.specs.Views.{view_of}
-use Rattle.dps_terms.specs.Signature.{Shape}
+use Rattle.dps_signature.specs.Signature.{Shape}
 use Rattle.dps_theory.specs.Theory.{Rule, Agree, IsAccepted, HasDestructorRoot}
 use Rattle.dps_theory.specs.Overlaps.{IsOverlap}
 use Rattle.dps_theory.specs.Index.{has_root, listed, HasRootBelow}

@@ -6,7 +6,7 @@ use Rattle.std.proofs.lemmas.Option.{none-some}
 use Rattle.std.proofs.lemmas.List.Elements.{All-weaker, All-contains, All-contains_itself}
 use Rattle.dps_terms.specs.Tree.{Leaf, public, private, var, ax, entry, rigid, Tree, leaf, app, StandsIn}
 use Rattle.dps_terms.specs.Views.{view_of, arguments}
-use Rattle.dps_terms.specs.Signature.{Signature}
+use Rattle.dps_signature.specs.Signature.{Signature}
 use Rattle.dps_terms.specs.Kinds.{IsBuiltOf, AnySymbol}
 use Rattle.dps_terms.proofs.Building.{built_weaker, built_of, leaf_meets}
 use Rattle.dps_theory.specs.Theory.{Rule, IsRuleLeaf}

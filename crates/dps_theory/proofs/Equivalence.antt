@@ -4,8 +4,8 @@ use Rattle.std.specs.Prelude.{◌↔◌, slice_get, unwrap_or}
 use Rattle.std.proofs.lemmas.List.{length-take}
 use Rattle.dps_terms.specs.Tree.{Leaf, public, private, var, ax, entry, rigid, Tree, leaf}
 use Rattle.dps_terms.specs.Replace.{in_frame, handles_to, numbered}
-use Rattle.dps_terms.specs.Signature.{Signature, HasArity, shapes}
-use Rattle.dps_terms.specs.Kinds.{IsRecipe, IsRecipeLeaf}
+use Rattle.dps_signature.specs.Signature.{Signature, HasArity, shapes}
+use Rattle.dps_signature.specs.Kinds.{IsRecipe, IsRecipeLeaf}
 use Rattle.dps_terms.proofs.Replacing.{replace_agrees}
 use Rattle.dps_terms.proofs.Building.{leaf_meets, built_weaker}
 use Rattle.dps_theory.specs.Theory.{Theory, IsAccepted}

@@ -3,13 +3,14 @@ use Rattle.std.proofs.Common.{◌≡◌, ℕ, ◌+◌, refl, sym, ◌∙◌, ap,
 use Rattle.std.specs.Prelude.{List, Option, Some, ◌⊎◌}
 use Rattle.std.specs.Option.{option_map}
 use Rattle.dps_terms.specs.declared.Sym.{Sym}
-use Rattle.dps_terms.specs.declared.SymKind.{SymKind}
-use Rattle.dps_terms.specs.declared.SymKind.TheVariants.{Constructor, Destructor}
+use Rattle.dps_signature.specs.declared.SymKind.{SymKind}
+use Rattle.dps_signature.specs.declared.SymKind.TheVariants.{Constructor, Destructor}
 use Rattle.dps_terms.specs.Tree.{Leaf, public, private, var, ax, entry, rigid, Tree, Trees, leaf, app, none, more, count, IsAmong, StandsIn, IsStrictSubterm, itself}
 use Rattle.dps_terms.specs.Tree.{below, in_first, in_rest, strictly}
 use Rattle.dps_terms.specs.Replace.{substitute, substitute_all, variables_to}
-use Rattle.dps_terms.specs.Signature.{Shape, HasShape}
-use Rattle.dps_terms.specs.Kinds.{IsPlain, AreBuiltOf, IsName, AnyLeaf, AnySymbol, IsNoVariable, IsClosed, IsConstructorTerm}
+use Rattle.dps_signature.specs.Signature.{Shape, HasShape}
+use Rattle.dps_terms.specs.Kinds.{AreBuiltOf, IsName, AnyLeaf, AnySymbol, IsNoVariable, IsClosed}
+use Rattle.dps_signature.specs.Kinds.{IsPlain, IsConstructorTerm}
 use Rattle.dps_terms.proofs.Subterms.{nested_among}
 use Rattle.dps_terms.proofs.Replacing.{keeps_among}
 use Rattle.dps_terms.proofs.Building.{leaf_meets, built_among, count-replace_all}

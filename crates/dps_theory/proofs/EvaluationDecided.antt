@@ -4,11 +4,11 @@ use Rattle.std.specs.Prelude.{◌⊎◌, slice_get}
 use Rattle.std.proofs.lemmas.Bool.{cases_lt}
 use Rattle.std.proofs.lemmas.List.Elements.{All-nil, All-cons, All-head}
 use Rattle.dps_terms.specs.declared.Sym.{Sym}
-use Rattle.dps_terms.specs.declared.SymKind.TheVariants.{Constructor, Destructor}
+use Rattle.dps_signature.specs.declared.SymKind.TheVariants.{Constructor, Destructor}
 use Rattle.dps_terms.specs.Tree.{Leaf, public, private, var, ax, entry, rigid, Tree, Trees, leaf, app, none, more, count}
 use Rattle.dps_terms.specs.Replace.{substitute, substitute_all, variables_to}
 use Rattle.dps_terms.specs.Bindings.{image}
-use Rattle.dps_terms.specs.Signature.{HasShape}
+use Rattle.dps_signature.specs.Signature.{HasShape}
 use Rattle.dps_terms.specs.Kinds.{AreBuiltOf, AnySymbol, IsName, IsNoVariable, IsClosed}
 use Rattle.dps_terms.proofs.Building.{built_among, closed_stays}
 use Rattle.dps_terms.proofs.Replacing.{keeps_among}

@@ -6,7 +6,7 @@ use Rattle.std.proofs.lemmas.Option.{slice_get_within, get_or_from_slice_get}
 use Rattle.dps_terms.specs.Tree.{Tree, leaf, var}
 use Rattle.dps_terms.specs.Replace.{substitute}
 use Rattle.dps_terms.specs.Bindings.{image}
-use Rattle.dps_terms.specs.Signature.{Shape}
+use Rattle.dps_signature.specs.Signature.{Shape}
 use Rattle.dps_unify.specs.Renaming.{raised}
 use Rattle.dps_unify.proofs.Trees.{substitute_in_turn}
 use Rattle.dps_theory.specs.Theory.{Rule, Agree, IsAccepted}

@@ -4,14 +4,15 @@ use Rattle.std.specs.Prelude.{slice_get, ◌↔◌}
 use Rattle.std.proofs.lemmas.Bool.{cases_lt}
 use Rattle.std.proofs.lemmas.Option.{none-some, slice_get_within}
 use Rattle.dps_terms.specs.declared.Sym.{Sym}
-use Rattle.dps_terms.specs.declared.SymKind.{SymKind}
-use Rattle.dps_terms.specs.declared.SymKind.TheVariants.{Constructor, Destructor}
+use Rattle.dps_signature.specs.declared.SymKind.{SymKind}
+use Rattle.dps_signature.specs.declared.SymKind.TheVariants.{Constructor, Destructor}
 use Rattle.dps_terms.specs.declared.TermView.TheVariants.{App, Var}
 use Rattle.dps_terms.specs.Tree.{Leaf, public, private, var, ax, entry, rigid, Tree, Trees, leaf, app, none, more, list_of, count, IsSubterm, IsAmong, IsStrictSubterm}
 use Rattle.dps_terms.specs.Tree.{itself, below, in_first, in_rest, strictly}
 use Rattle.dps_terms.specs.Views.{view_of, arguments}
-use Rattle.dps_terms.specs.Signature.{Shape, HasShape}
-use Rattle.dps_terms.specs.Kinds.{IsBuiltOf, AreBuiltOf, AnyLeaf, AnySymbol, IsNoVariable, IsClosed, IsConstructorTerm}
+use Rattle.dps_signature.specs.Signature.{Shape, HasShape}
+use Rattle.dps_terms.specs.Kinds.{IsBuiltOf, AreBuiltOf, AnyLeaf, AnySymbol, IsNoVariable, IsClosed}
+use Rattle.dps_signature.specs.Kinds.{IsConstructorTerm}
 use Rattle.dps_terms.proofs.Arguments.{leaf_is_no_app}
 use Rattle.dps_theory.specs.Theory.{HasDestructorRoot, HasConstructorArguments}
 

@@ -2,10 +2,10 @@
 use Rattle.std.proofs.Common.{◌≡◌, ℕ, zero, suc, ◌+◌, List, [], ◌∷◌, length, refl, sym, ◌∙◌, ap, subst, inl, inr, arith, Some}
 use Rattle.std.specs.Prelude.{◌↔◌, ◌⊎◌, slice_get}
 use Rattle.dps_terms.specs.declared.Sym.{Sym}
-use Rattle.dps_terms.specs.declared.SymKind.TheVariants.{Constructor, Destructor}
+use Rattle.dps_signature.specs.declared.SymKind.TheVariants.{Constructor, Destructor}
 use Rattle.dps_terms.specs.Tree.{Leaf, public, private, var, ax, entry, rigid, Tree, Trees, leaf, app, none, more, trees, count}
 use Rattle.dps_terms.specs.Replace.{substitute, substitute_all}
-use Rattle.dps_terms.specs.Signature.{HasShape}
+use Rattle.dps_signature.specs.Signature.{HasShape}
 use Rattle.dps_terms.specs.Kinds.{IsName}
 use Rattle.dps_theory.specs.Theory.{Rule, Theory, HasRule, IsAccepted, HasDestructorRoot}
 use Rattle.dps_theory.specs.Evaluation.{Evaluates, EvaluateAll, Reduces, named, constructed, reduced, no_terms, a_term, IsMessage}

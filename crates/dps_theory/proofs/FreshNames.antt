@@ -6,7 +6,7 @@ use Rattle.dps_terms.specs.declared.PublicName.{PublicName}
 use Rattle.dps_terms.specs.declared.PublicName.TheVariants.{Declared, At}
 use Rattle.dps_terms.specs.Tree.{Leaf, public, private, var, ax, entry, rigid, Tree, Trees, leaf, app, none, more}
 use Rattle.dps_terms.specs.Replace.{numbered}
-use Rattle.dps_terms.specs.Signature.{Signature, Name, IsPublic}
+use Rattle.dps_signature.specs.Signature.{Signature, Name, IsPublic}
 use Rattle.dps_terms.specs.Kinds.{IsBuiltOf, AreBuiltOf, AnySymbol}
 
 -- an attacker's name below the bound

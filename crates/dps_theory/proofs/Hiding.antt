@@ -1,12 +1,13 @@
 -- What stands under a key that is kept is hidden: the frames `senc(c,k)` and `senc(d,k)` are statically equivalent.
 use Rattle.std.proofs.Common.{◌≡◌, ℕ, zero, suc, ◌≤◌, refl, sym, ◌∙◌, ap, ap₂, subst, arith}
 use Rattle.dps_terms.specs.declared.Sym.{Sym}
-use Rattle.dps_terms.specs.declared.SymKind.TheVariants.{Constructor, Destructor}
+use Rattle.dps_signature.specs.declared.SymKind.TheVariants.{Constructor, Destructor}
 use Rattle.dps_terms.specs.declared.PublicName.{PublicName}
 use Rattle.dps_terms.specs.Tree.{Leaf, public, private, var, ax, entry, rigid, Tree, Trees, leaf, app, none, more, count}
 use Rattle.dps_terms.specs.Replace.{replace_all, in_frame, handles_to}
-use Rattle.dps_terms.specs.Signature.{HasShape, HasArity, shapes}
-use Rattle.dps_terms.specs.Kinds.{IsPlain, IsRecipe, IsRecipeLeaf, AreBuiltOf}
+use Rattle.dps_signature.specs.Signature.{HasShape, HasArity, shapes}
+use Rattle.dps_terms.specs.Kinds.{AreBuiltOf}
+use Rattle.dps_signature.specs.Kinds.{IsPlain, IsRecipe, IsRecipeLeaf}
 use Rattle.dps_terms.proofs.Building.{count-replace_all}
 use Rattle.dps_theory.specs.Evaluation.{Evaluates, EvaluateAll, Reduces, named, constructed, reduced, no_terms, a_term}
 use Rattle.dps_theory.specs.Frames.{HasValue, HaveOneValue, AreStaticallyEquivalent}

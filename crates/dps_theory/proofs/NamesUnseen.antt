@@ -6,8 +6,9 @@ use Rattle.dps_terms.specs.declared.PublicName.{PublicName}
 use Rattle.dps_terms.specs.declared.PublicName.TheVariants.{Declared, At}
 use Rattle.dps_terms.specs.Tree.{Leaf, public, private, var, ax, entry, rigid, Tree, leaf}
 use Rattle.dps_terms.specs.Replace.{replace, in_frame, handles_to, numbered}
-use Rattle.dps_terms.specs.Signature.{Signature, HasArity, shapes, IsPublic}
-use Rattle.dps_terms.specs.Kinds.{IsBuiltOf, AnySymbol, IsName, IsNoVariable, IsLeafOver, IsRecipe, IsRecipeLeaf}
+use Rattle.dps_signature.specs.Signature.{Signature, HasArity, shapes, IsPublic}
+use Rattle.dps_terms.specs.Kinds.{IsBuiltOf, AnySymbol, IsName, IsNoVariable}
+use Rattle.dps_signature.specs.Kinds.{IsLeafOver, IsRecipe, IsRecipeLeaf}
 use Rattle.dps_terms.proofs.Replacing.{replace_in_turn, replace_agrees, replace_stays}
 use Rattle.dps_terms.proofs.Building.{leaf_meets, built_instance}
 use Rattle.dps_theory.specs.Theory.{Rule, Theory, HasRule, HasPlainRules, IsRuleLeaf}

@@ -3,7 +3,7 @@ use Rattle.std.proofs.Common.{◌≡◌, ◌⊎◌, ℕ, zero, suc, ◌-◌, ◌
 use Rattle.std.specs.Prelude.{slice_get, Contains}
 use Rattle.std.proofs.lemmas.Option.{slice_get_within}
 use Rattle.dps_terms.specs.Tree.{Tree}
-use Rattle.dps_terms.specs.Signature.{Shape}
+use Rattle.dps_signature.specs.Signature.{Shape}
 use Rattle.dps_theory.specs.Theory.{Rule, Agree}
 use Rattle.dps_theory.specs.Checking.{numbered_rule, HasForm, IsFault, AreAcceptedBefore, IsFirstFault, IsFirstOverlap}
 use Rattle.dps_theory.specs.LawsOfFaults.{NoRulesHaveTwoFaults}

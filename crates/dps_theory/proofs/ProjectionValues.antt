@@ -7,11 +7,11 @@ use Rattle.std.proofs.lemmas.Simd.{map-map}
 use Rattle.std.proofs.lemmas.List.Elements.{Contains-append_cases, Contains-append_left, All-contains}
 use Rattle.std.proofs.lemmas.Option.{none-some, get_or_from_slice_get}
 use Rattle.dps_terms.specs.declared.Sym.{Sym}
-use Rattle.dps_terms.specs.declared.SymKind.TheVariants.{Destructor}
+use Rattle.dps_signature.specs.declared.SymKind.TheVariants.{Destructor}
 use Rattle.dps_terms.specs.Tree.{var, Tree, Trees, leaf, app, none, more, trees}
 use Rattle.dps_terms.specs.Replace.{replace, substitute, substitute_all, variables_to}
-use Rattle.dps_terms.specs.Signature.{Signature, HasShape, shapes}
-use Rattle.dps_terms.specs.Names.{tuple_name, projection_name, symbol_named}
+use Rattle.dps_signature.specs.Signature.{Signature, HasShape, shapes}
+use Rattle.dps_signature.specs.Names.{tuple_name, projection_name, symbol_named}
 use Rattle.dps_terms.proofs.Arguments.{replace_trees}
 use Rattle.dps_theory.specs.Theory.{Rule, Theory, HasRule}
 use Rattle.dps_theory.specs.Judging.{root_of}

@@ -1,10 +1,10 @@
 -- Evaluation under replaced names.
 use Rattle.std.proofs.Common.{◌≡◌, ℕ, refl, sym, ◌∙◌, ap, subst}
 use Rattle.dps_terms.specs.declared.Sym.{Sym}
-use Rattle.dps_terms.specs.declared.SymKind.TheVariants.{Constructor, Destructor}
+use Rattle.dps_signature.specs.declared.SymKind.TheVariants.{Constructor, Destructor}
 use Rattle.dps_terms.specs.Tree.{Leaf, public, private, var, ax, entry, rigid, Tree, Trees, leaf, IsAmong, StandsIn, below}
 use Rattle.dps_terms.specs.Replace.{replace, replace_all, substitute, substitute_all, variables_to}
-use Rattle.dps_terms.specs.Signature.{HasShape}
+use Rattle.dps_signature.specs.Signature.{HasShape}
 use Rattle.dps_terms.specs.Kinds.{AnySymbol, IsName, IsNoVariable}
 use Rattle.dps_terms.proofs.Replacing.{replace_in_turn, replace_all_in_turn, replace_agrees, replace_all_agrees, replace_undone}
 use Rattle.dps_terms.proofs.Building.{leaf_meets, count-replace_all}

@@ -2,10 +2,10 @@
 use Rattle.std.proofs.Common.{◌≡◌, ℕ, zero, suc, ◌<◌, List, [], ◌∷◌, Option, Some, None, refl, sym, ap, subst, inl, inr, arith, ◌⊎◌}
 use Rattle.std.specs.Prelude.{slice_get}
 use Rattle.std.proofs.lemmas.Option.{none-some}
-use Rattle.dps_terms.specs.declared.SymKind.TheVariants.{Constructor, Destructor}
+use Rattle.dps_signature.specs.declared.SymKind.TheVariants.{Constructor, Destructor}
 use Rattle.dps_terms.specs.Tree.{Tree, Trees, leaf, app, none, more, IsStrictSubterm, IsAmong, IsSubterm, itself, in_first, in_rest, below, strictly}
 use Rattle.dps_terms.specs.Replace.{substitute}
-use Rattle.dps_terms.specs.Signature.{Shape}
+use Rattle.dps_signature.specs.Signature.{Shape}
 use Rattle.dps_terms.proofs.Subterms.{strict_lt}
 use Rattle.dps_theory.specs.Theory.{Rule, Theory, HasRule, Agree, IsAccepted}
 use Rattle.dps_theory.specs.Checking.{HasForm}

@@ -3,15 +3,16 @@ use Rattle.std.proofs.Common.{◌≡◌, ℕ, zero, suc, ◌+◌, ◌<◌, ◌�
 use Rattle.std.specs.Prelude.{slice_get}
 use Rattle.std.proofs.lemmas.Bool.{cases_Bool, cases_lt, eqb-true, eq-eqb}
 use Rattle.dps_terms.specs.declared.Sym.{Sym}
-use Rattle.dps_terms.specs.declared.SymKind.{SymKind}
-use Rattle.dps_terms.specs.declared.SymKind.TheVariants.{Constructor, Destructor}
+use Rattle.dps_signature.specs.declared.SymKind.{SymKind}
+use Rattle.dps_signature.specs.declared.SymKind.TheVariants.{Constructor, Destructor}
 use Rattle.dps_terms.specs.Tree.{Leaf, public, private, var, ax, entry, rigid, Tree, Trees, leaf, app, none, more, count, IsSubterm, IsAmong, IsStrictSubterm, itself}
 use Rattle.dps_terms.specs.Tree.{below, in_first, in_rest, strictly}
 use Rattle.dps_terms.specs.Replace.{substitute}
 use Rattle.dps_terms.specs.Bindings.{image}
-use Rattle.dps_terms.specs.Signature.{Shape, HasShape}
+use Rattle.dps_signature.specs.Signature.{Shape, HasShape}
 use Rattle.dps_terms.specs.Same.{same, same-true, same-self}
-use Rattle.dps_terms.specs.Kinds.{IsBuiltOf, AreBuiltOf, AnyLeaf, AnySymbol, IsNoVariable, IsClosed, IsConstructorTerm}
+use Rattle.dps_terms.specs.Kinds.{IsBuiltOf, AreBuiltOf, AnyLeaf, AnySymbol, IsNoVariable, IsClosed}
+use Rattle.dps_signature.specs.Kinds.{IsConstructorTerm}
 use Rattle.dps_unify.specs.Renaming.{raised}
 use Rattle.dps_unify.proofs.Deciding.{unifiers_are_decided}
 use Rattle.dps_theory.specs.Theory.{Rule, Agree, HasDestructorRoot, HasConstructorArguments, IsBounded}

@@ -4,7 +4,7 @@ use Rattle.std.specs.Option.{option_map}
 use Rattle.std.proofs.Common.{ap, arith, refl, add-one}
 use Rattle.std.proofs.lemmas.List.{map-append}
 use Rattle.std.proofs.lemmas.Option.{none-some}
-use Rattle.dps_terms.specs.Signature.{Shape, Symbol, shape_of}
+use Rattle.dps_signature.specs.Signature.{Shape, Symbol, shape_of}
 use Rattle.dps_theory.specs.Theory.{Rule, Theory, HasRule}
 use Rattle.dps_theory.specs.declared.shapes.SymbolShape.{SymbolShape}
 use Rattle.dps_theory.specs.Held.{shape_of as kept_shape, IsKept}

@@ -10,12 +10,13 @@ use Rattle.std.proofs.lemmas.List.Quantifiers.{position-Some}
 use Rattle.std.proofs.lemmas.Option.{none-some, slice_get_within}
 use Rattle.std.proofs.lemmas.Bool.{cases_Bool, cases_lt, eqb-true}
 use Rattle.dps_terms.specs.declared.Sym.{Sym}
-use Rattle.dps_terms.specs.declared.SymKind.TheVariants.{Constructor, Destructor}
+use Rattle.dps_signature.specs.declared.SymKind.TheVariants.{Constructor, Destructor}
 use Rattle.dps_terms.specs.Tree.{Leaf, var, Tree, leaf, app, trees, count, IsSubterm, IsAmong, itself, below, in_first, in_rest, strictly}
 use Rattle.dps_terms.specs.Replace.{substitute}
-use Rattle.dps_terms.specs.Signature.{Symbol, Signature, Shape, HasShape, HasArity, shapes}
-use Rattle.dps_terms.specs.Names.{tuple_name, projection_name, symbol_named}
-use Rattle.dps_terms.specs.Kinds.{AreBuiltOf, AnyLeaf, AnySymbol, IsLeafOver}
+use Rattle.dps_signature.specs.Signature.{Symbol, Signature, Shape, HasShape, HasArity, shapes}
+use Rattle.dps_signature.specs.Names.{tuple_name, projection_name, symbol_named}
+use Rattle.dps_terms.specs.Kinds.{AreBuiltOf, AnyLeaf, AnySymbol}
+use Rattle.dps_signature.specs.Kinds.{IsLeafOver}
 use Rattle.dps_terms.proofs.Arguments.{count-trees}
 use Rattle.dps_theory.specs.Theory.{Rule, Theory, Agree, IsAccepted, IsRuleLeaf, HasDestructorRoot}
 use Rattle.dps_theory.specs.Checking.{HasForm}

@@ -7,7 +7,7 @@ use Rattle.std.proofs.lemmas.Option.{none-some}
 use Rattle.dps_terms.specs.declared.Sym.{Sym}
 use Rattle.dps_terms.specs.Tree.{Tree, Trees, leaf, app}
 use Rattle.dps_terms.specs.Replace.{substitute}
-use Rattle.dps_terms.specs.Signature.{Shape}
+use Rattle.dps_signature.specs.Signature.{Shape}
 use Rattle.dps_theory.specs.Theory.{Rule, Agree, HasDestructorRoot}
 use Rattle.dps_theory.specs.Index.{has_root, places_from, places, listed, IsIndexOf}
 use Rattle.dps_theory.specs.Judging.{AgreeBefore}

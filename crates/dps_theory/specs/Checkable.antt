@@ -1,12 +1,13 @@
 -- What rules have to meet before they are checked, rule by rule and length by length.
 use Rattle.std.specs.Prelude.{◌≡◌, ◌≢◌, ◌≤◌, ◌<◌, ◌^◌, ℕ, List, All, Some, ⊤}
-use Rattle.dps_terms.specs.declared.SymKind.TheVariants.{Constructor, Destructor}
+use Rattle.dps_signature.specs.declared.SymKind.TheVariants.{Constructor, Destructor}
 use Rattle.dps_terms.specs.declared.borrowed.TermView.{TermView}
 use Rattle.dps_terms.specs.declared.borrowed.TermView.TheVariants.{App, Public, Private, Var, Ax, Entry, Rigid}
 use Rattle.dps_terms.specs.Tree.{Leaf, public, private, var, ax, entry, rigid, Tree}
-use Rattle.dps_terms.specs.Signature.{Signature, HasShape, shapes}
-use Rattle.dps_terms.specs.Names.{tuple_name, projection_name, symbol_named}
-use Rattle.dps_terms.specs.Kinds.{IsBuiltOf, AnySymbol, IsOver}
+use Rattle.dps_signature.specs.Signature.{Signature, HasShape, shapes}
+use Rattle.dps_signature.specs.Names.{tuple_name, projection_name, symbol_named}
+use Rattle.dps_terms.specs.Kinds.{IsBuiltOf, AnySymbol}
+use Rattle.dps_signature.specs.Kinds.{IsOver}
 use Rattle.dps_theory.specs.Theory.{Rule, IsDeclaredName}
 use Rattle.dps_theory.specs.Judging.{root_of}
 

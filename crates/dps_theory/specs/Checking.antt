@@ -1,8 +1,8 @@
 -- When rules make an accepted theory, and the first fault where they do not. Rules are counted from 1.
 use Rattle.std.specs.Prelude.{◌≡◌, ◌<◌, ◌-◌, ℕ, zero, suc, List, slice_get, Some, Option, None, take, ⊤}
 use Rattle.dps_terms.specs.Tree.{Tree}
-use Rattle.dps_terms.specs.Signature.{Shape}
-use Rattle.dps_terms.specs.Kinds.{IsConstructorTerm}
+use Rattle.dps_signature.specs.Signature.{Shape}
+use Rattle.dps_signature.specs.Kinds.{IsConstructorTerm}
 use Rattle.dps_theory.specs.Theory.{Rule, Agree, IsAccepted, HasDestructorRoot, HasConstructorArguments, IsBounded}
 use Rattle.dps_theory.specs.Overlaps.{IsOverlap}
 use Rattle.dps_theory.specs.declared.form.FormFault.{FormFault}

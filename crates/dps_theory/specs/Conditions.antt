@@ -1,7 +1,8 @@
 -- What rules have to meet before they are checked. The rules of a file meet all of it.
 use Rattle.std.specs.Prelude.{◌≢◌, ◌<◌, ◌^◌, List, length, All}
-use Rattle.dps_terms.specs.Signature.{Signature}
-use Rattle.dps_terms.specs.Kinds.{IsBuiltOf, AnySymbol, IsOver}
+use Rattle.dps_signature.specs.Signature.{Signature}
+use Rattle.dps_terms.specs.Kinds.{IsBuiltOf, AnySymbol}
+use Rattle.dps_signature.specs.Kinds.{IsOver}
 use Rattle.dps_theory.specs.Theory.{Rule, IsRuleLeaf}
 use Rattle.dps_theory.specs.Overlaps.{HasSmallVariables}
 use Rattle.dps_theory.specs.Projections.{projections, HasProjections}

@@ -1,10 +1,10 @@
 -- Evaluation, by call by value.
 use Rattle.std.specs.Prelude.{◌≡◌, ℕ}
 use Rattle.dps_terms.specs.declared.Sym.{Sym}
-use Rattle.dps_terms.specs.declared.SymKind.TheVariants.{Constructor, Destructor}
+use Rattle.dps_signature.specs.declared.SymKind.TheVariants.{Constructor, Destructor}
 use Rattle.dps_terms.specs.Tree.{Leaf, Tree, Trees, leaf, app, none, more, count}
 use Rattle.dps_terms.specs.Replace.{substitute, substitute_all}
-use Rattle.dps_terms.specs.Signature.{HasShape}
+use Rattle.dps_signature.specs.Signature.{HasShape}
 use Rattle.dps_terms.specs.Kinds.{IsName}
 use Rattle.dps_theory.specs.Theory.{Rule, Theory, HasRule}
 

@@ -2,10 +2,10 @@
 --   free a, b.  fun senc/2.  reduc sdec(senc(x,y),y) -> x.
 use Rattle.std.specs.Prelude.{List, [], ◌∷◌, codes, false}
 use Rattle.dps_terms.specs.declared.Sym.{Sym}
-use Rattle.dps_terms.specs.declared.SymKind.TheVariants.{Constructor, Destructor}
+use Rattle.dps_signature.specs.declared.SymKind.TheVariants.{Constructor, Destructor}
 use Rattle.dps_terms.specs.declared.PublicName.TheVariants.{Declared}
 use Rattle.dps_terms.specs.Tree.{public, private, var, ax, rigid, Tree, leaf, app, none, more}
-use Rattle.dps_terms.specs.Signature.{Signature, shapes}
+use Rattle.dps_signature.specs.Signature.{Signature, shapes}
 use Rattle.dps_theory.specs.Theory.{Rule, Theory}
 use Rattle.dps_theory.specs.declared.examples.RuleList.{RuleList}
 use Rattle.dps_theory.specs.declared.examples.RuleList.TheVariants.{Decryption, Overlap, TwoRules, GroundRight, LargerRight, ConstructorRoot, RootArity, InnerDestructor, RightDestructor}

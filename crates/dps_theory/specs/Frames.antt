@@ -2,8 +2,8 @@
 use Rattle.std.specs.Prelude.{◌≡◌, ◌↔◌, ◌⊎◌, ℕ, List, length, All}
 use Rattle.dps_terms.specs.Tree.{Tree}
 use Rattle.dps_terms.specs.Replace.{in_frame}
-use Rattle.dps_terms.specs.Signature.{Signature, shapes}
-use Rattle.dps_terms.specs.Kinds.{IsFrameMessage, IsOver, IsRecipe}
+use Rattle.dps_signature.specs.Signature.{Signature, shapes}
+use Rattle.dps_signature.specs.Kinds.{IsFrameMessage, IsOver, IsRecipe}
 use Rattle.dps_theory.specs.Theory.{Theory}
 use Rattle.dps_theory.specs.Evaluation.{Evaluates, IsMessage, AreEqual}
 

@@ -1,6 +1,6 @@
 -- The theory that a list of symbols' kinds and arities and a list of rules stand for.
 use Rattle.std.specs.Prelude.{List, map}
-use Rattle.dps_terms.specs.Signature.{Shape}
+use Rattle.dps_signature.specs.Signature.{Shape}
 use Rattle.dps_theory.specs.Theory.{Rule, Theory, IsAccepted, HasPlainRules}
 use Rattle.dps_theory.specs.declared.shapes.SymbolShape.{SymbolShape}
 

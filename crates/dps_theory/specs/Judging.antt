@@ -1,7 +1,7 @@
 -- How far the rules of a list were judged.
 use Rattle.std.specs.Prelude.{◌≡◌, ◌<◌, ℕ, List, slice_get, Some, Option, None}
 use Rattle.dps_terms.specs.declared.Sym.{Sym}
-use Rattle.dps_terms.specs.Signature.{Shape}
+use Rattle.dps_signature.specs.Signature.{Shape}
 use Rattle.dps_terms.specs.Tree.{Tree, leaf, app}
 use Rattle.dps_theory.specs.Theory.{Rule, Agree}
 use Rattle.dps_theory.specs.Overlaps.{IsOverlap}

@@ -3,8 +3,9 @@ use Rattle.std.specs.Prelude.{◌≡◌, ◌↔◌, ◌⊎◌, ℕ, List, ◌++�
 use Rattle.dps_terms.specs.declared.PublicName.TheVariants.{Declared}
 use Rattle.dps_terms.specs.Tree.{Leaf, public, Tree, leaf, StandsIn}
 use Rattle.dps_terms.specs.Replace.{replace}
-use Rattle.dps_terms.specs.Signature.{Shape, Signature, shapes}
-use Rattle.dps_terms.specs.Kinds.{AnySymbol, IsBuiltOf, IsLeafOver, IsName, IsNoVariable, IsPlain, IsRecipe}
+use Rattle.dps_signature.specs.Signature.{Shape, Signature, shapes}
+use Rattle.dps_terms.specs.Kinds.{AnySymbol, IsBuiltOf, IsName, IsNoVariable}
+use Rattle.dps_signature.specs.Kinds.{IsLeafOver, IsPlain, IsRecipe}
 use Rattle.dps_theory.specs.Theory.{Rule, Theory, HasRule, IsAccepted, HasPlainRules}
 use Rattle.dps_theory.specs.Checking.{HaveFault}
 use Rattle.dps_theory.specs.Conditions.{AreCheckable, IsRuleOver}

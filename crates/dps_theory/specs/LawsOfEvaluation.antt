@@ -2,11 +2,11 @@
 -- it is decided; what projections compute; and that private names go by other numbers.
 use Rattle.std.specs.Prelude.{◌≡◌, ◌↔◌, ◌⊎◌, ◌≤◌, ◌-◌, ℕ, List, ◌++◌, length, slice_get, Some}
 use Rattle.dps_terms.specs.declared.Sym.{Sym}
-use Rattle.dps_terms.specs.declared.SymKind.TheVariants.{Constructor, Destructor}
+use Rattle.dps_signature.specs.declared.SymKind.TheVariants.{Constructor, Destructor}
 use Rattle.dps_terms.specs.Tree.{Leaf, public, private, var, ax, entry, rigid, Tree, Trees, leaf, app, none, more, trees, count}
 use Rattle.dps_terms.specs.Replace.{replace, substitute, private_names_to}
-use Rattle.dps_terms.specs.Signature.{Signature, HasShape, shapes}
-use Rattle.dps_terms.specs.Names.{tuple_name, projection_name, symbol_named}
+use Rattle.dps_signature.specs.Signature.{Signature, HasShape, shapes}
+use Rattle.dps_signature.specs.Names.{tuple_name, projection_name, symbol_named}
 use Rattle.dps_theory.specs.Theory.{Rule, Theory, HasRule, IsAccepted, HasPlainRules}
 use Rattle.dps_theory.specs.Conditions.{AreCheckable}
 use Rattle.dps_theory.specs.Projections.{projections}

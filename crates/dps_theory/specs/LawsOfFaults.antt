@@ -1,7 +1,7 @@
 -- What a reader expects of the faults of rules. It is the contract of a function of the crate.
 use Rattle.std.specs.Prelude.{◌≡◌, ℕ, List}
 use Rattle.dps_terms.specs.Tree.{Tree}
-use Rattle.dps_terms.specs.Signature.{Shape}
+use Rattle.dps_signature.specs.Signature.{Shape}
 use Rattle.dps_theory.specs.Theory.{Rule}
 use Rattle.dps_theory.specs.declared.form.FormFault.{FormFault}
 use Rattle.dps_theory.specs.Checking.{IsFirstFault, IsFirstOverlap}

@@ -1,7 +1,7 @@
 -- Static equivalence in terms of tests.
 use Rattle.std.specs.Prelude.{◌≡◌, ◌↔◌, List, length}
 use Rattle.dps_terms.specs.Tree.{Tree}
-use Rattle.dps_terms.specs.Signature.{Signature}
+use Rattle.dps_signature.specs.Signature.{Signature}
 use Rattle.dps_theory.specs.Theory.{Theory}
 use Rattle.dps_theory.specs.Frames.{AreStaticallyEquivalent, Test, IsTest, HoldsIn}
 

@@ -2,10 +2,10 @@
 use Rattle.std.specs.Prelude.{◌≡◌, ◌≤◌, ◌+◌, ℕ, List, [], ◌∷◌, ◌++◌, map, Option, Some, None, unwrap_or}
 use Rattle.std.specs.List.{range_with_len, flat_map}
 use Rattle.dps_terms.specs.declared.Sym.{Sym}
-use Rattle.dps_terms.specs.declared.SymKind.TheVariants.{Constructor, Destructor}
+use Rattle.dps_signature.specs.declared.SymKind.TheVariants.{Constructor, Destructor}
 use Rattle.dps_terms.specs.Tree.{Tree, leaf, var, app, none, more, trees}
-use Rattle.dps_terms.specs.Signature.{Signature, HasShape, shapes}
-use Rattle.dps_terms.specs.Names.{tuple_name, projection_name, symbol_named}
+use Rattle.dps_signature.specs.Signature.{Signature, HasShape, shapes}
+use Rattle.dps_signature.specs.Names.{tuple_name, projection_name, symbol_named}
 use Rattle.dps_theory.specs.Theory.{Rule}
 
 -- the symbol with this text

@@ -1,6 +1,6 @@
 -- Whether rules are accepted is decided, for all rules.
 use Rattle.std.specs.Prelude.{List, ◌⊎◌}
-use Rattle.dps_terms.specs.Signature.{Shape}
+use Rattle.dps_signature.specs.Signature.{Shape}
 use Rattle.dps_theory.specs.Theory.{Rule, IsAccepted}
 use Rattle.dps_theory.specs.Checking.{HaveFault}
 

@@ -2,9 +2,9 @@
 use Rattle.std.specs.Prelude.{List, refl}
 use Rattle.std.specs.Coded.{Coded, code_by, coded×, coded_list}
 use Rattle.dps_terms.specs.Tree.{Tree}
-use Rattle.dps_terms.specs.Signature.{Shape}
+use Rattle.dps_signature.specs.Signature.{Shape}
 use Rattle.dps_terms.specs.Stored.{tree_code}
-use Rattle.dps_terms.specs.StoredSignature.{shape_code}
+use Rattle.dps_signature.specs.StoredSignature.{shape_code}
 use Rattle.dps_theory.specs.Theory.{Rule, Theory}
 
 abbrev pub rule_code : Coded Rule

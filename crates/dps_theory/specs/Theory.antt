@@ -1,12 +1,13 @@
 -- Theories: rewrite rules by which destructors compute.
 use Rattle.std.specs.Prelude.{◌≡◌, ◌⊎◌, ℕ, List, Contains, ⊤}
-use Rattle.dps_terms.specs.declared.SymKind.TheVariants.{Destructor}
+use Rattle.dps_signature.specs.declared.SymKind.TheVariants.{Destructor}
 use Rattle.dps_terms.specs.declared.PublicName.{PublicName}
 use Rattle.dps_terms.specs.declared.PublicName.TheVariants.{Declared, At}
 use Rattle.dps_terms.specs.Tree.{Leaf, public, private, var, ax, entry, rigid, Tree, leaf, app, count, IsStrictSubterm}
 use Rattle.dps_terms.specs.Replace.{substitute}
-use Rattle.dps_terms.specs.Signature.{Shape, HasShape}
-use Rattle.dps_terms.specs.Kinds.{IsBuiltOf, AnySymbol, IsClosed, IsConstructorTerm, AreConstructorTerms}
+use Rattle.dps_signature.specs.Signature.{Shape, HasShape}
+use Rattle.dps_terms.specs.Kinds.{IsBuiltOf, AnySymbol, IsClosed}
+use Rattle.dps_signature.specs.Kinds.{IsConstructorTerm, AreConstructorTerms}
 
 -- `left -> right`
 pub record Rule : Type 0 where

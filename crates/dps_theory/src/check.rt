@@ -1,6 +1,6 @@
 //! Whether rules make an accepted theory.
 ghost use Rattle.std.specs.Prelude.{◌≡◌, ◌<◌, ◌+◌, ◌^◌, ℕ, true, List, map, length, take, slice_get, Some, All, OnOk, IfOk, IfErr, MatchOption};
-ghost use Rattle.dps_terms.specs.Signature.{Shape};
+ghost use Rattle.dps_signature.specs.Signature.{Shape};
 ghost use Rattle.dps_theory.specs.Theory.{Rule as RuleValue, IsAccepted};
 ghost use Rattle.dps_theory.specs.Held.{shape_of, theory_of};
 ghost use Rattle.dps_theory.specs.Overlaps.{HasSmallVariables};

@@ -2,7 +2,7 @@
 ghost use Rattle.std.specs.Prelude.{◌≡◌, ◌≢◌, ◌≤◌, ◌↔◌, map, All, IfOk, IsTrue};
 ghost use Rattle.dps_terms.specs.Kinds.{IsBuiltOf, AnySymbol};
 ghost use Rattle.dps_terms.specs.Seen.{seen};
-ghost use Rattle.dps_terms.specs.Signature.{shapes};
+ghost use Rattle.dps_signature.specs.Signature.{shapes};
 ghost use Rattle.dps_theory.specs.Checkable.{IsSmallRuleLeaf, IsSmallRuleView, IsSide, IsCheckable, HasProjectionsOf, HasDestructors, HasDestructor};
 ghost use Rattle.dps_theory.specs.Conditions.{AreCheckable};
 ghost use Rattle.dps_theory.specs.Held.{shape_of};
@@ -12,9 +12,8 @@ ghost use Rattle.dps_theory.specs.Projections.{HasProjections};
 use crate::Rule;
 use crate::projections::projections;
 use crate::shapes::{SymbolShape, has_shape, shapes_of};
-use dps_terms::{
-    NoMemory, PublicName, Signature, SymKind, Term, TermRef, TermView, projection_text, tuple_text,
-};
+use dps_signature::{Signature, SymKind, is_over, projection_text, tuple_text};
+use dps_terms::{NoMemory, PublicName, Term, TermRef, TermView};
 use std::alloc::Global;
 
 /// Whether rules meet all that `Theory::check` asks of them before it looks at them: there are fewer than 2^24, over the
@@ -82,7 +81,7 @@ fn differ_at_root(projection: &Rule, rule: &Rule) -> bool
 fn is_side(signature: &Signature, term: &Term) -> bool
     ensures { IsTrue result ↔ IsSide signature.now term.now }
 {
-    term.is_over(signature) && has_rule_leaves(term.whole())
+    is_over(term, signature) && has_rule_leaves(term.whole())
 }
 
 /// Whether the leaves are declared names and variables with numbers below 2^32.

@@ -1,7 +1,8 @@
 //! The form of a rule: what stands at its left root, below it and on its right side.
 ghost use Rattle.std.specs.Prelude.{◌↔◌, map, IsTrue, MatchOption};
 ghost use Rattle.dps_terms.specs.Tree.{IsSubterm, IsStrictSubterm};
-ghost use Rattle.dps_terms.specs.Kinds.{IsClosed, IsConstructorTerm};
+ghost use Rattle.dps_terms.specs.Kinds.{IsClosed};
+ghost use Rattle.dps_signature.specs.Kinds.{IsConstructorTerm};
 ghost use Rattle.dps_terms.specs.Seen.{seen};
 ghost use Rattle.dps_theory.specs.Theory.{HasDestructorRoot, HasConstructorArguments, IsBounded};
 ghost use Rattle.dps_theory.specs.Held.{shape_of};
@@ -9,7 +10,8 @@ ghost use Rattle.dps_theory.specs.Checking.{HasForm, IsFault};
 
 use crate::Rule;
 use crate::shapes::{SymbolShape, has_shape};
-use dps_terms::{SymKind, TermRef, TermView};
+use dps_signature::SymKind;
+use dps_terms::{TermRef, TermView};
 
 /// What is wrong with a rule by itself.
 #[derive(Clone, Copy, Debug, PartialEq, Eq)]

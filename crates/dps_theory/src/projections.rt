@@ -1,11 +1,12 @@
 //! The rules of the projections of tuples.
 ghost use Rattle.std.specs.Prelude.{◌≡◌, ◌≤◌, ◌+◌, ◌++◌, ◌∷◌, [], ℕ, map, Some, IfOk, OnOk, string_bytes};
 ghost use Rattle.std.specs.List.{range_with_len};
-ghost use Rattle.dps_terms.specs.Names.{projection_name, symbol_named};
+ghost use Rattle.dps_signature.specs.Names.{projection_name, symbol_named};
 ghost use Rattle.dps_theory.specs.Projections.{projection_rule, projections as projection_rules, projections_of, tuple_of, HasProjections};
 
 use crate::Rule;
-use dps_terms::{NoMemory, Signature, Sym, Term, projection_text, tuple_text};
+use dps_signature::{Signature, projection_text, tuple_text};
+use dps_terms::{NoMemory, Sym, Term};
 use std::alloc::Global;
 
 /// The rules `proj_i_n((x1,..,xn)) -> xi`, for each n with a symbol of tuples, by n and i.

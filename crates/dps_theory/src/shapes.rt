@@ -1,9 +1,10 @@
 //! The kinds and the arities of symbols.
 ghost use Rattle.std.specs.Prelude.{◌≡◌, ◌↔◌, map, IfOk, IsTrue};
-ghost use Rattle.dps_terms.specs.Signature.{shapes, HasShape};
+ghost use Rattle.dps_signature.specs.Signature.{shapes, HasShape};
 ghost use Rattle.dps_theory.specs.Held.{shape_of};
 
-use dps_terms::{NoMemory, Signature, Sym, SymKind};
+use dps_signature::{Signature, SymKind};
+use dps_terms::{NoMemory, Sym};
 use std::alloc::Global;
 
 #[derive(Clone, Copy, Debug, PartialEq, Eq)]

@@ -1,8 +1,7 @@
 //! What is answered of rules, in tables of numbers, and each call once with ample memory.
 use crate::{FormFault, Rule, Theory, TheoryRefusal, are_checkable};
-use dps_terms::{
-    AddRefusal, NoMemory, PublicName, Signature, Subst, Sym, SymKind, Term, is_identifier,
-};
+use dps_signature::{AddRefusal, Signature, SymKind, is_identifier};
+use dps_terms::{NoMemory, PublicName, Subst, Sym, Term};
 use std::alloc::Global;
 use std::process::Abort;
 use std::test::Fail;

@@ -1,7 +1,7 @@
 //! Theories as values.
 ghost use Rattle.std.specs.Prelude.{◌≡◌, [], ◌++◌, map, slice_get, IfOk, IfErr};
 ghost use Rattle.std.specs.Option.{option_map};
-ghost use Rattle.dps_terms.specs.Signature.{shapes};
+ghost use Rattle.dps_signature.specs.Signature.{shapes};
 ghost use Rattle.dps_theory.specs.Theory.{Rule as RuleValue, HasRule, IsAccepted, HasPlainRules};
 ghost use Rattle.dps_theory.specs.Held.{shape_of, theory_of};
 ghost use Rattle.dps_theory.specs.Index.{places};
@@ -15,7 +15,8 @@ use crate::index::{RootIndex, index_of};
 use crate::projections::projections;
 use crate::rule::copied;
 use crate::shapes::{SymbolShape, shapes_of};
-use dps_terms::{NoMemory, Signature, Sym, SymKind};
+use dps_signature::{Signature, SymKind};
+use dps_terms::{NoMemory, Sym};
 use std::alloc::Global;
 use std::marker::Model;
 

@@ -4,9 +4,9 @@ use Rattle.std.specs.Prelude.{All, slice_get}
 use Rattle.std.specs.Option.{option_map}
 use Rattle.std.proofs.lemmas.Option.{none-some}
 use Rattle.std.proofs.lemmas.List.Elements.{All-nil, All-cons, All-head, All-tail}
-use Rattle.dps_terms.specs.declared.SymKind.{SymKind}
-use Rattle.dps_terms.specs.declared.SymKind.TheVariants.{Constructor, Destructor}
-use Rattle.dps_terms.specs.Signature.{Symbol}
+use Rattle.dps_signature.specs.declared.SymKind.{SymKind}
+use Rattle.dps_signature.specs.declared.SymKind.TheVariants.{Constructor, Destructor}
+use Rattle.dps_signature.specs.Signature.{Symbol}
 
 abbrev pub Builds : Symbol → Type 0
 Builds s = s.kind ≡ Constructor

@@ -2,7 +2,7 @@
 use Rattle.std.proofs.Common.{◌≡◌, ◌∙◌, ap, ℕ, ◌<◌, arith, length, List, [], ◌∷◌, ◌++◌, refl, sym, subst, inl, inr, true≢false}
 use Rattle.std.specs.Prelude.{Bool, true, false, Contains}
 use Rattle.dps_terms.specs.Tree.{Tree}
-use Rattle.dps_terms.specs.Signature.{Signature}
+use Rattle.dps_signature.specs.Signature.{Signature}
 use Rattle.dps_theory.specs.Theory.{Theory}
 use Rattle.dps_theory.specs.Frames.{AreStaticallyEquivalent}
 use Rattle.dps_static.specs.Answer.{IsAnswerUnder}

@@ -1,7 +1,7 @@
 -- Parts of outputs alone, whose messages are frame messages over the signature.
 use Rattle.std.proofs.Common.{List, [], ◌∷◌, ◌++◌}
 use Rattle.std.specs.Prelude.{⊤}
-use Rattle.dps_terms.specs.Signature.{Signature, IsPublic}
+use Rattle.dps_signature.specs.Signature.{Signature, IsPublic}
 use Rattle.dps_process.specs.Process.{Process, nil, parallel, choice, conditional, bind, input, output}
 use Rattle.dps_process.specs.Steps.{Removes, here, there}
 use Rattle.dps_process.proofs.Values.{IsMessageOver}

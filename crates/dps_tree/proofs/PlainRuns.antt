@@ -2,9 +2,10 @@
 use Rattle.std.proofs.Common.{◌≡◌, ℕ, ◌+◌, List, [], ◌∷◌, ◌++◌, length, refl, sym, ◌∙◌, ap, subst, append_assoc, length-append}
 use Rattle.std.proofs.lemmas.List.{append-nil}
 use Rattle.dps_terms.specs.Tree.{Leaf, public, private, var, ax, entry, rigid, Tree}
-use Rattle.dps_terms.specs.Signature.{Signature, Shape, HasShape, shapes}
-use Rattle.dps_terms.specs.declared.SymKind.TheVariants.{Constructor}
-use Rattle.dps_terms.specs.Kinds.{IsName, IsPlain, IsFrameLeaf}
+use Rattle.dps_signature.specs.Signature.{Signature, Shape, HasShape, shapes}
+use Rattle.dps_signature.specs.declared.SymKind.TheVariants.{Constructor}
+use Rattle.dps_terms.specs.Kinds.{IsName, IsFrameLeaf}
+use Rattle.dps_signature.specs.Kinds.{IsPlain}
 use Rattle.dps_terms.proofs.Building.{built_weaker}
 use Rattle.dps_theory.specs.Theory.{Theory}
 use Rattle.dps_theory.proofs.Evaluating.{plain_evaluates, plain_alone}

@@ -8,11 +8,12 @@ use Rattle.dps_branch.specs.declared.Side.TheVariants.{Left, Right}
 use Rattle.dps_terms.specs.declared.Sym.{Sym}
 use Rattle.dps_terms.specs.declared.PublicName.{PublicName}
 use Rattle.dps_terms.specs.declared.PublicName.TheVariants.{Declared, At}
-use Rattle.dps_terms.specs.declared.SymKind.{SymKind}
-use Rattle.dps_terms.specs.declared.SymKind.TheVariants.{Constructor}
+use Rattle.dps_signature.specs.declared.SymKind.{SymKind}
+use Rattle.dps_signature.specs.declared.SymKind.TheVariants.{Constructor}
 use Rattle.dps_terms.specs.Tree.{Leaf, public, private, var, ax, entry, rigid, Tree, StandsIn}
-use Rattle.dps_terms.specs.Signature.{Signature, Symbol, Shape, HasShape, HasArity, shapes, shape_of}
-use Rattle.dps_terms.specs.Kinds.{IsSourceLeaf, IsSourceName, IsSourceTerm, IsFrameLeaf, IsLeafOver, IsDeclared}
+use Rattle.dps_signature.specs.Signature.{Signature, Symbol, Shape, HasShape, HasArity, shapes, shape_of}
+use Rattle.dps_terms.specs.Kinds.{IsFrameLeaf}
+use Rattle.dps_signature.specs.Kinds.{IsSourceLeaf, IsSourceName, IsSourceTerm, IsLeafOver, IsDeclared}
 use Rattle.dps_terms.proofs.Building.{built_subterm, leaf_meets, built_of}
 use Rattle.dps_process.specs.Process.{Process, nil, parallel, choice, conditional, bind, input, output, IsClosedProcess, EachTerm}
 use Rattle.dps_process.specs.Problem.{Problem, side_of, IsLawful}

@@ -6,7 +6,7 @@ use Rattle.std.proofs.lemmas.Option.{none-some}
 use Rattle.std.proofs.lemmas.List.{append-nil}
 use Rattle.dps_terms.specs.Tree.{Tree}
 use Rattle.dps_terms.specs.Seen.{seen}
-use Rattle.dps_terms.specs.Signature.{Signature}
+use Rattle.dps_signature.specs.Signature.{Signature}
 use Rattle.dps_terms.specs.declared.borrowed.TermRef.{TermRef}
 use Rattle.dps_process.specs.Process.{Process, nil, parallel, output}
 use Rattle.dps_process.proofs.Bags.{reordered_refl}

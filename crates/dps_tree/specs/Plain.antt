@@ -1,7 +1,7 @@
 -- Problems without inputs, tests, bindings, choices, rules and private channels.
 use Rattle.std.specs.Prelude.{◌≡◌, [], ⊤, All}
-use Rattle.dps_terms.specs.declared.SymKind.TheVariants.{Constructor}
-use Rattle.dps_terms.specs.Signature.{Signature, IsPublic}
+use Rattle.dps_signature.specs.declared.SymKind.TheVariants.{Constructor}
+use Rattle.dps_signature.specs.Signature.{Signature, IsPublic}
 use Rattle.dps_process.specs.Process.{Process, nil, parallel, choice, conditional, bind, input, output}
 use Rattle.dps_process.specs.Problem.{Problem}
 

@@ -2,7 +2,7 @@
 use Rattle.std.specs.Prelude.{◌≡◌, ℕ, List, [], ◌∷◌, ◌++◌, map, Option, Some, None, slice_get}
 use Rattle.dps_terms.specs.Tree.{Tree}
 use Rattle.dps_terms.specs.Seen.{seen}
-use Rattle.dps_terms.specs.Signature.{Signature}
+use Rattle.dps_signature.specs.Signature.{Signature}
 use Rattle.dps_terms.specs.declared.borrowed.TermRef.{TermRef}
 use Rattle.dps_process.specs.Process.{Process, output}
 use Rattle.dps_process.specs.Steps.{IsReordered}

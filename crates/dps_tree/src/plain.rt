@@ -1,12 +1,13 @@
 //! Which problems have outputs alone.
 ghost use Rattle.std.specs.Prelude.{◌≡◌, ◌↔◌, IsTrue, All};
-ghost use Rattle.dps_terms.specs.declared.SymKind.TheVariants.{Constructor};
-ghost use Rattle.dps_terms.specs.Signature.{IsPublic};
+ghost use Rattle.dps_signature.specs.declared.SymKind.TheVariants.{Constructor};
+ghost use Rattle.dps_signature.specs.Signature.{IsPublic};
 ghost use Rattle.dps_tree.specs.Plain.{HasOutputsAlone, IsPlain};
 
 use dps_branch::Side;
 use dps_process::{Problem, Process, ProcessView};
-use dps_terms::{Signature, Sym, SymKind};
+use dps_signature::{Signature, SymKind};
+use dps_terms::Sym;
 
 /// Whether the signature has constructors alone, the theory no rules, and the sides hold `0`, `|` and outputs on public
 /// channels alone. It takes no memory.

@@ -2,7 +2,8 @@
 use crate::{PlainAttack, is_plain, plain_check};
 use dps_branch::Side;
 use dps_process::{CommModel, Problem, Process};
-use dps_terms::{NoMemory, PublicName, Signature, Term, is_identifier};
+use dps_signature::{Signature, is_identifier};
+use dps_terms::{NoMemory, PublicName, Term};
 use dps_theory::Theory;
 use std::alloc::{AllocError, Global};
 use std::test::Fail;

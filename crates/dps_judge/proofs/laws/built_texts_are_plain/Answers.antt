@@ -1,7 +1,7 @@
 use Rattle.std.proofs.Common.{◌≡◌, refl, ap, ◌∙◌, subst, sym}
 use Rattle.std.proofs.lemmas.List.Elements.{All-weaker}
-use Rattle.dps_terms.specs.Signature.{Signature}
-use Rattle.dps_terms.specs.declared.SymKind.TheVariants.{Constructor}
+use Rattle.dps_signature.specs.Signature.{Signature}
+use Rattle.dps_signature.specs.declared.SymKind.TheVariants.{Constructor}
 use Rattle.dps_tree.specs.Plain.{IsPlain}
 use Rattle.dps_judge.proofs.PlainPrograms.{file_plain}
 use Rattle.dps_judge.proofs.PlainSides.{plain_problem}

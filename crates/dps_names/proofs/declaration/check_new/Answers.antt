@@ -1,8 +1,8 @@
 use Rattle.std.proofs.Common.{◌≡◌, ap, sym, ◌∙◌, None, false, subst}
 use Rattle.std.specs.Prelude.{position}
 use Rattle.std.specs.Str.{bytes_eq}
-use Rattle.dps_terms.specs.Signature.{Signature}
-use Rattle.dps_terms.specs.Names.{IsDeclaredText}
+use Rattle.dps_signature.specs.Signature.{Signature}
+use Rattle.dps_signature.specs.Names.{IsDeclaredText}
 use Rattle.dps_syntax.specs.Tree.{Lexeme}
 use Rattle.dps_scopes.specs.Scopes.{is_reserved}
 use Rattle.dps_scopes.proofs.Undeclared.{IsNoDeclaration, not_declared}

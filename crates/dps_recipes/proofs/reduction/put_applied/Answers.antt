@@ -1,7 +1,7 @@
 use Rattle.std.proofs.Common.{◌∙◌, List, take, drop, sym, ap, Some, inl, subst, refl}
 use Rattle.std.proofs.lemmas.List.{length-take-le}
 use Rattle.dps_terms.specs.Tree.{Tree, app, trees}
-use Rattle.dps_terms.specs.declared.SymKind.TheVariants.{Constructor, Destructor}
+use Rattle.dps_signature.specs.declared.SymKind.TheVariants.{Constructor, Destructor}
 use Rattle.dps_recipes.specs.Reduction.{HasAllAt}
 use Rattle.dps_recipes.proofs.Applying.{arities_differ, arities_same, no_arity_gives, has_shape, put_given, first_taken}
 use Rattle.dps_recipes.proofs.Trying.{all_at_places}

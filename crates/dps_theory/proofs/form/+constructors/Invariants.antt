@@ -1,6 +1,6 @@
 use Rattle.std.proofs.Common.{◌+◌, ◌*◌, map}
 use Rattle.dps_terms.specs.Tree.{node_count}
-use Rattle.dps_terms.specs.Kinds.{IsConstructorTerm}
+use Rattle.dps_signature.specs.Kinds.{IsConstructorTerm}
 use Rattle.dps_terms.specs.Seen.{seen}
 use Rattle.dps_theory.specs.Held.{shape_of}
 use Rattle.dps_theory.proofs.Forms.{FirstArguments}

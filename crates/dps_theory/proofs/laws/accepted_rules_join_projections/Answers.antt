@@ -1,5 +1,5 @@
 use Rattle.std.proofs.Common.{refl}
-use Rattle.dps_terms.specs.Signature.{shapes}
+use Rattle.dps_signature.specs.Signature.{shapes}
 use Rattle.dps_theory.proofs.TupleRules.{kept_with_projections, over_cases}
 use Rattle.dps_theory.proofs.laws.accepted_rules_join_projections.Goals as goal
 

@@ -1,6 +1,6 @@
 use Rattle.std.specs.Prelude.{◌↔◌, List, length}
 use Rattle.dps_terms.specs.Tree.{Tree}
-use Rattle.dps_terms.specs.Signature.{Signature}
+use Rattle.dps_signature.specs.Signature.{Signature}
 use Rattle.dps_theory.specs.Theory.{Theory}
 use Rattle.dps_theory.specs.Frames.{AreStaticallyEquivalent, Test, succeeds, equal, IsTest, HoldsIn}
 use Rattle.dps_theory.specs.LawsOfTests.{PassSameTests}

@@ -1,5 +1,5 @@
 use Rattle.std.proofs.Common.{◌∙◌, ap, sym}
-use Rattle.dps_terms.specs.Names.{symbol_named}
+use Rattle.dps_signature.specs.Names.{symbol_named}
 use Rattle.dps_theory.proofs.projections.push_projections.Goals as goal
 
 pub push_rules-requires-clause-there : goal.push_rules-requires-clause-there

@@ -1,5 +1,5 @@
 use Rattle.std.proofs.Common.{◌≡◌, map, take}
-use Rattle.dps_terms.specs.Signature.{shapes}
+use Rattle.dps_signature.specs.Signature.{shapes}
 use Rattle.dps_theory.specs.Held.{shape_of}
 use Rattle.dps_theory.proofs.shapes.shapes_of.Given as goal
 

@@ -1,6 +1,6 @@
 use Rattle.std.proofs.Common.{◌≡◌, ◌<◌, ℕ, Some}
 use Rattle.std.specs.Prelude.{slice_get}
-use Rattle.dps_terms.specs.Signature.{Symbol}
+use Rattle.dps_signature.specs.Signature.{Symbol}
 use Rattle.dps_tree.proofs.Constructors.{Builds}
 use Rattle.dps_tree.proofs.plain.has_constructors_alone.Given as goal
 

@@ -1,5 +1,5 @@
 use Rattle.std.proofs.Common.{refl, ◌∙◌}
-use Rattle.dps_terms.proofs.Positions.{same_place}
+use Rattle.dps_signature.proofs.Positions.{same_place}
 use Rattle.dps_scopes.specs.Definition.{Definition}
 use Rattle.dps_scopes.proofs.definitions.Definitions.find.Goals as goal
 

@@ -1,6 +1,6 @@
 use Rattle.std.proofs.Common.{◌≡◌, ◌++◌, ◌∙◌, ap, length, map, arith}
 use Rattle.std.proofs.lemmas.List.{length-map}
-use Rattle.dps_terms.specs.Signature.{shapes}
+use Rattle.dps_signature.specs.Signature.{shapes}
 use Rattle.dps_theory.specs.Held.{shape_of}
 use Rattle.dps_theory.specs.Projections.{projections}
 use Rattle.dps_theory.proofs.TupleRules.{few_rules, roots_below, kept_with_projections}

@@ -1,0 +1,10 @@
+pub mod Signature
+pub mod Kinds
+pub mod Laws
+pub mod StoredSignature
+pub mod Names
+pub mod Spelled
+pub mod Counted
+pub mod Text
+pub mod Unwritten
+pub mod Over
