@@ -43,7 +43,7 @@ module _ (scope : Scope) (w0 w1 : Writer) (depth below : ℕ) (node : IsNodeTake
     abbrev channel : IsChannelAdded w1 w2 (channel_in names locals c) number
     channel = let P : List Local → Type 0 = λ x. IsChannelAdded w1 w2 (channel_in names (locals_from scope.first x) c) number in subst P node.stack named
 
-    pub output_large_sent : IsTooLargeTerm w2.room below (value_of (locals_from scope.first w2.stack.items) u).tree → IsTooLargeSide w0.room depth (here (output c u p)).process
+    pub output_large_sent : IsTooLargeTerm w2.nodes_left below (value_of (locals_from scope.first w2.stack.items) u).tree → IsTooLargeSide w0.nodes_left depth (here (output c u p)).process
     output_large_sent h =
         large_term_behind depth below (value_of locals u).tree (here (output c u p)).process (added_on node.added channel.added) node.deeper
         (large_term_at scope.first w2 below u before h (named.stack ∙ node.stack)) (omega arith) (omega arith)
@@ -52,7 +52,7 @@ module _ (scope : Scope) (w0 w1 : Writer) (depth below : ℕ) (node : IsNodeTake
       abbrev sent_here : IsTermWritten w2 w3 below (value_of locals u) t
       sent_here = term_at scope.first w2 w3 below u t before sent (named.stack ∙ node.stack)
 
-      pub output_large_next : IsTooLargeSide w3.room below (written_in scope w3.stack.items p (numbers_of w3)).process → IsTooLargeSide w0.room depth (here (output c u p)).process
+      pub output_large_next : IsTooLargeSide w3.nodes_left below (written_in scope w3.stack.items p (numbers_of w3)).process → IsTooLargeSide w0.nodes_left depth (here (output c u p)).process
       output_large_next h =
           large_behind depth below (here p).process (here (output c u p)).process (added_on (added_on node.added channel.added) sent_here.added) node.deeper
           (large_body_at scope w3 below p before next h (sent.stack ∙ named.stack ∙ node.stack) (sent.added.numbers ∙ named.added.numbers ∙ node.added.numbers))
@@ -80,8 +80,8 @@ module _ (scope : Scope) (w0 w1 : Writer) (depth below : ℕ) (node : IsNodeTake
     fitting = taken_apart names steps (locals ++ made (var next.variable) ∷ []) (expansion_of names scope.definitions.now p) (written_in scope before nil) (one_variable next)
 
     pub input_large_fits :
-        IsTooLargeSide w3.room below (taken_apart_in scope w3.stack.items steps p nil (take outside w3.stack.items) (numbers_of w3)).process
-        → IsTooLargeSide w0.room depth (here (input c steps p)).process
+        IsTooLargeSide w3.nodes_left below (taken_apart_in scope w3.stack.items steps p nil (take outside w3.stack.items) (numbers_of w3)).process
+        → IsTooLargeSide w0.nodes_left depth (here (input c steps p)).process
     input_large_fits k =
         large_behind depth below fitting.process (here (input c steps p)).process (added_on (added_on node.added heard.added) pushed.added) node.deeper
         (large_fits_at scope w3 below steps p nil outside (locals ++ made (var next.variable) ∷ []) before (one_variable next) k
@@ -108,7 +108,7 @@ module _ (scope : Scope) (w0 w1 : Writer) (depth below : ℕ) (node : IsNodeTake
 
   -- `if u = v then p else q`
   module _ (u v : Written) (p q : Body) where
-    pub conditional_large_first : IsTooLargeTerm w1.room below (value_of (locals_from scope.first w1.stack.items) u).tree → IsTooLargeSide w0.room depth (here (conditional u v p q)).process
+    pub conditional_large_first : IsTooLargeTerm w1.nodes_left below (value_of (locals_from scope.first w1.stack.items) u).tree → IsTooLargeSide w0.nodes_left depth (here (conditional u v p q)).process
     conditional_large_first h =
         large_term_behind depth below (value_of locals u).tree (here (conditional u v p q)).process node.added node.deeper (large_term_at scope.first w1 below u before h node.stack)
         (omega arith) (omega arith)
@@ -117,7 +117,7 @@ module _ (scope : Scope) (w0 w1 : Writer) (depth below : ℕ) (node : IsNodeTake
       abbrev first_here : IsTermWritten w1 w2 below (value_of locals u) t
       first_here = term_at scope.first w1 w2 below u t before first node.stack
 
-      pub conditional_large_second : IsTooLargeTerm w2.room below (value_of (locals_from scope.first w2.stack.items) v).tree → IsTooLargeSide w0.room depth (here (conditional u v p q)).process
+      pub conditional_large_second : IsTooLargeTerm w2.nodes_left below (value_of (locals_from scope.first w2.stack.items) v).tree → IsTooLargeSide w0.nodes_left depth (here (conditional u v p q)).process
       conditional_large_second h =
           large_term_behind depth below (value_of locals v).tree (here (conditional u v p q)).process (added_on node.added first_here.added) node.deeper
           (large_term_at scope.first w2 below v before h (first.stack ∙ node.stack)) (omega arith) (omega arith)
@@ -126,7 +126,7 @@ module _ (scope : Scope) (w0 w1 : Writer) (depth below : ℕ) (node : IsNodeTake
         abbrev second_here : IsTermWritten w2 w3 below (value_of locals v) r
         second_here = term_at scope.first w2 w3 below v r before second (first.stack ∙ node.stack)
 
-        pub conditional_large_then : IsTooLargeSide w3.room below (written_in scope w3.stack.items p (numbers_of w3)).process → IsTooLargeSide w0.room depth (here (conditional u v p q)).process
+        pub conditional_large_then : IsTooLargeSide w3.nodes_left below (written_in scope w3.stack.items p (numbers_of w3)).process → IsTooLargeSide w0.nodes_left depth (here (conditional u v p q)).process
         conditional_large_then h =
             large_behind depth below (here p).process (here (conditional u v p q)).process (added_on (added_on node.added first_here.added) second_here.added) node.deeper
             (large_body_at scope w3 below p before next h (second.stack ∙ first.stack ∙ node.stack) (second.added.numbers ∙ first.added.numbers ∙ node.added.numbers))
@@ -136,7 +136,7 @@ module _ (scope : Scope) (w0 w1 : Writer) (depth below : ℕ) (node : IsNodeTake
           abbrev fits_here : IsWritten w3 w4 below before (here p) f
           fits_here = body_at scope w3 w4 below p f before next fits (second.stack ∙ first.stack ∙ node.stack) (second.added.numbers ∙ first.added.numbers ∙ node.added.numbers)
 
-          pub conditional_large_else : IsTooLargeSide w4.room below (written_in scope w4.stack.items q (numbers_of w4)).process → IsTooLargeSide w0.room depth (here (conditional u v p q)).process
+          pub conditional_large_else : IsTooLargeSide w4.nodes_left below (written_in scope w4.stack.items q (numbers_of w4)).process → IsTooLargeSide w0.nodes_left depth (here (conditional u v p q)).process
           conditional_large_else h =
               large_behind depth below (written_in scope before q (here p).next).process (here (conditional u v p q)).process
               (added_on (added_on (added_on node.added first_here.added) second_here.added) fits_here.added) node.deeper
@@ -155,7 +155,7 @@ module _ (scope : Scope) (w0 w1 : Writer) (depth below : ℕ) (node : IsNodeTake
 
   -- `let pattern = u in p else q`
   module _ (u : Written) (steps : List Step) (p q : Body) where
-    pub bind_large_value : IsTooLargeTerm w1.room below (value_of (locals_from scope.first w1.stack.items) u).tree → IsTooLargeSide w0.room depth (here (bind u steps p q)).process
+    pub bind_large_value : IsTooLargeTerm w1.nodes_left below (value_of (locals_from scope.first w1.stack.items) u).tree → IsTooLargeSide w0.nodes_left depth (here (bind u steps p q)).process
     bind_large_value h =
         large_term_behind depth below (value_of locals u).tree (here (bind u steps p q)).process node.added node.deeper (large_term_at scope.first w1 below u before h node.stack) (omega arith)
         (omega arith)
@@ -172,8 +172,8 @@ module _ (scope : Scope) (w0 w1 : Writer) (depth below : ℕ) (node : IsNodeTake
       in_front = recast (added_on (added_on node.added value_here.added) pushed.added) (append-nil (value_of locals u).privates) (omega arith)
 
       pub bind_large_fits :
-          IsTooLargeSide w3.room below (taken_apart_in scope w3.stack.items steps p q (take outside w3.stack.items) (numbers_of w3)).process
-          → IsTooLargeSide w0.room depth (here (bind u steps p q)).process
+          IsTooLargeSide w3.nodes_left below (taken_apart_in scope w3.stack.items steps p q (take outside w3.stack.items) (numbers_of w3)).process
+          → IsTooLargeSide w0.nodes_left depth (here (bind u steps p q)).process
       bind_large_fits k =
           large_behind depth below matching.process (here (bind u steps p q)).process in_front node.deeper
           (large_fits_at scope w3 below steps p q outside (locals ++ made (var next.variable) ∷ []) before (one_variable next) k
@@ -190,7 +190,7 @@ module _ (scope : Scope) (w0 w1 : Writer) (depth below : ℕ) (node : IsNodeTake
             (pushed_whole w2 w3 before v outside o pushed (value.stack ∙ node.stack))
             (pushed_numbers w2 w3 next v pushed (value.added.numbers ∙ node.added.numbers))
 
-        pub bind_large_unfit : IsTooLargeSide w4.room below (written_in scope w4.stack.items q (numbers_of w4)).process → IsTooLargeSide w0.room depth (here (bind u steps p q)).process
+        pub bind_large_unfit : IsTooLargeSide w4.nodes_left below (written_in scope w4.stack.items q (numbers_of w4)).process → IsTooLargeSide w0.nodes_left depth (here (bind u steps p q)).process
         bind_large_unfit k =
             large_behind depth below (written_in scope before q matching.next).process (here (bind u steps p q)).process (added_on in_front match_here.added) node.deeper
             (large_body_at scope w4 below q before matching.next k match_here.stack match_here.added.numbers)
@@ -228,8 +228,8 @@ module _ (scope : Scope) (w0 w1 : Writer) (depth below : ℕ) (node : IsNodeTake
     before_projection = recast (added_on (added_on node.added projected_here.added) pushed.added) refl (omega arith)
 
     pub project_large_fits :
-        IsTooLargeSide w3.room below (taken_apart_in scope w3.stack.items steps p q (take outside w3.stack.items) (numbers_of w3)).process
-        → IsTooLargeSide w0.room depth all_projected.process
+        IsTooLargeSide w3.nodes_left below (taken_apart_in scope w3.stack.items steps p q (take outside w3.stack.items) (numbers_of w3)).process
+        → IsTooLargeSide w0.nodes_left depth all_projected.process
     project_large_fits k =
         large_behind depth below behind_projection.process all_projected.process before_projection node.deeper
         (large_fits_at scope w3 below steps p q outside (locals ++ made (var next.variable) ∷ []) (take outside before) (one_variable next) k
@@ -246,7 +246,7 @@ module _ (scope : Scope) (w0 w1 : Writer) (depth below : ℕ) (node : IsNodeTake
           (pushed_outside w2 w3 before v outside o pushed (value.stack ∙ node.stack))
           (pushed_numbers w2 w3 next v pushed (value.added.numbers ∙ node.added.numbers))
 
-      pub project_large_unfit : IsTooLargeSide w4.room below (written_in scope w4.stack.items q (numbers_of w4)).process → IsTooLargeSide w0.room depth all_projected.process
+      pub project_large_unfit : IsTooLargeSide w4.nodes_left below (written_in scope w4.stack.items q (numbers_of w4)).process → IsTooLargeSide w0.nodes_left depth all_projected.process
       project_large_unfit k =
           large_behind depth below (written_in scope (take outside before) q behind_projection.next).process all_projected.process (added_on before_projection rest_projected.added) node.deeper
           (large_body_at scope w4 below q (take outside before) behind_projection.next k rest_projected.stack rest_projected.added.numbers)
@@ -276,7 +276,7 @@ module _ (scope : Scope) (w0 w1 : Writer) (depth below : ℕ) (node : IsNodeTake
     abbrev all_tested : Expansion
     all_tested = taken_apart_in scope before (Test j u ∷ steps) p q (take outside before) next
 
-    pub test_large_second : IsTooLargeTerm w2.room below (value_of (locals_from scope.first w2.stack.items) u).tree → IsTooLargeSide w0.room depth all_tested.process
+    pub test_large_second : IsTooLargeTerm w2.nodes_left below (value_of (locals_from scope.first w2.stack.items) u).tree → IsTooLargeSide w0.nodes_left depth all_tested.process
     test_large_second k =
         large_term_behind depth below (value_of locals u).tree all_tested.process (added_on node.added tested_here.added) node.deeper
         (large_term_at scope.first w2 below u before k (value.stack ∙ node.stack)) (omega arith) (omega arith)
@@ -295,8 +295,8 @@ module _ (scope : Scope) (w0 w1 : Writer) (depth below : ℕ) (node : IsNodeTake
       before_test = added_on (added_on node.added tested_here.added) against.added
 
       pub test_large_fits :
-          IsTooLargeSide w3.room below (taken_apart_in scope w3.stack.items steps p q (take outside w3.stack.items) (numbers_of w3)).process
-          → IsTooLargeSide w0.room depth all_tested.process
+          IsTooLargeSide w3.nodes_left below (taken_apart_in scope w3.stack.items steps p q (take outside w3.stack.items) (numbers_of w3)).process
+          → IsTooLargeSide w0.nodes_left depth all_tested.process
       test_large_fits k =
           large_behind depth below behind_test.process all_tested.process before_test node.deeper
           (large_fits_at scope w3 below steps p q outside locals (take outside before) next k (ap (locals_from scope.first) as_before) (ap (take outside) as_before) numbers_before)
@@ -307,7 +307,7 @@ module _ (scope : Scope) (w0 w1 : Writer) (depth below : ℕ) (node : IsNodeTake
         abbrev rest_tested : IsWritten w3 w4 below (take outside before) behind_test f
         rest_tested = fits_at scope w3 w4 below steps p q f outside locals (take outside before) next fits (ap (locals_from scope.first) as_before) (ap (take outside) as_before) numbers_before
 
-        pub test_large_unfit : IsTooLargeSide w4.room below (written_in scope w4.stack.items q (numbers_of w4)).process → IsTooLargeSide w0.room depth all_tested.process
+        pub test_large_unfit : IsTooLargeSide w4.nodes_left below (written_in scope w4.stack.items q (numbers_of w4)).process → IsTooLargeSide w0.nodes_left depth all_tested.process
         test_large_unfit k =
             large_behind depth below (written_in scope (take outside before) q behind_test.next).process all_tested.process (added_on before_test rest_tested.added) node.deeper
             (large_body_at scope w4 below q (take outside before) behind_test.next k rest_tested.stack rest_tested.added.numbers)
@@ -334,9 +334,9 @@ module _ (scope : Scope) (w0 w1 : Writer) (depth below : ℕ) (node : IsNodeTake
         by ByChoice [] e = absurd (omega arith)
         by ByChoice (q ∷ qs) e = refl
 
-    pub pair_large_first : IsTooLargeSide w1.room below (written_in scope w1.stack.items p (numbers_of w1)).process → IsTooLargeSide w0.room depth (here (chain_of join (bodies parts))).process
+    pub pair_large_first : IsTooLargeSide w1.nodes_left below (written_in scope w1.stack.items p (numbers_of w1)).process → IsTooLargeSide w0.nodes_left depth (here (chain_of join (bodies parts))).process
     pair_large_first k =
-        let P : Expansion → Type 0 = λ e. IsTooLargeSide w0.room depth e.process in
+        let P : Expansion → Type 0 = λ e. IsTooLargeSide w0.nodes_left depth e.process in
         subst P (sym split)
         (large_behind depth below (here p).process (beside (joined join) (here p) (written_in scope before (chain_of join (bodies rest)))).process node.added node.deeper
         (large_body_at scope w1 below p before next k node.stack node.added.numbers)
@@ -348,10 +348,10 @@ module _ (scope : Scope) (w0 w1 : Writer) (depth below : ℕ) (node : IsNodeTake
       first_part = body_at scope w1 w2 below p f before next first node.stack node.added.numbers
 
       pub pair_large_last :
-          IsTooLargeSide w2.room below (written_in scope w2.stack.items (chain_of join (bodies rest)) (numbers_of w2)).process
-          → IsTooLargeSide w0.room depth (here (chain_of join (bodies parts))).process
+          IsTooLargeSide w2.nodes_left below (written_in scope w2.stack.items (chain_of join (bodies rest)) (numbers_of w2)).process
+          → IsTooLargeSide w0.nodes_left depth (here (chain_of join (bodies parts))).process
       pair_large_last k =
-          let P : Expansion → Type 0 = λ e. IsTooLargeSide w0.room depth e.process in
+          let P : Expansion → Type 0 = λ e. IsTooLargeSide w0.nodes_left depth e.process in
           subst P (sym split)
           (large_behind depth below (written_in scope before (chain_of join (bodies rest)) (here p).next).process
           (beside (joined join) (here p) (written_in scope before (chain_of join (bodies rest)))).process

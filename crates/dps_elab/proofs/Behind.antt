@@ -53,11 +53,11 @@ body_at scope a b depth p q s n h e f =
 
 pub large_body_at :
     (scope : Scope) (a : Writer) (depth : ℕ) (p : Body) (s : List Local) (n : Numbers)
-    → IsTooLargeSide a.room depth (written_in scope a.stack.items p (numbers_of a)).process → a.stack.items ≡ s → numbers_of a ≡ n
-    → IsTooLargeSide a.room depth (written_in scope s p n).process
+    → IsTooLargeSide a.nodes_left depth (written_in scope a.stack.items p (numbers_of a)).process → a.stack.items ≡ s → numbers_of a ≡ n
+    → IsTooLargeSide a.nodes_left depth (written_in scope s p n).process
 large_body_at scope a depth p s n h e f =
-    let P : List Local → Type 0 = λ x. IsTooLargeSide a.room depth (written_in scope x p (numbers_of a)).process in
-    let Q : Numbers → Type 0 = λ x. IsTooLargeSide a.room depth (written_in scope s p x).process in
+    let P : List Local → Type 0 = λ x. IsTooLargeSide a.nodes_left depth (written_in scope x p (numbers_of a)).process in
+    let Q : Numbers → Type 0 = λ x. IsTooLargeSide a.nodes_left depth (written_in scope s p x).process in
     subst Q f (subst P e h)
 
 pub term_at :
@@ -66,9 +66,9 @@ pub term_at :
 term_at first a b depth u t s h e = let P : List Local → Type 0 = λ x. IsTermWritten a b depth (value_of (locals_from first x) u) t in subst P e h
 
 pub large_term_at :
-    (first : ℕ) (a : Writer) (depth : ℕ) (u : Written) (s : List Local) → IsTooLargeTerm a.room depth (value_of (locals_from first a.stack.items) u).tree
-    → a.stack.items ≡ s → IsTooLargeTerm a.room depth (value_of (locals_from first s) u).tree
-large_term_at first a depth u s h e = let P : List Local → Type 0 = λ x. IsTooLargeTerm a.room depth (value_of (locals_from first x) u).tree in subst P e h
+    (first : ℕ) (a : Writer) (depth : ℕ) (u : Written) (s : List Local) → IsTooLargeTerm a.nodes_left depth (value_of (locals_from first a.stack.items) u).tree
+    → a.stack.items ≡ s → IsTooLargeTerm a.nodes_left depth (value_of (locals_from first s) u).tree
+large_term_at first a depth u s h e = let P : List Local → Type 0 = λ x. IsTooLargeTerm a.nodes_left depth (value_of (locals_from first x) u).tree in subst P e h
 
 pub fits_at : (scope : Scope) (a b : Writer) (depth : ℕ) (steps : List Step) (p q : Body) (f : Process) (outside : ℕ) (locals : List Value) (out : List Local) (n : Numbers)
     → IsWritten a b depth (take outside a.stack.items) (taken_apart_in scope a.stack.items steps p q (take outside a.stack.items) (numbers_of a)) f
@@ -83,15 +83,15 @@ fits_at scope a b depth steps p q f outside locals out n h e o m =
     subst R m (subst Q o (subst P e h))
 
 pub large_fits_at : (scope : Scope) (a : Writer) (depth : ℕ) (steps : List Step) (p q : Body) (outside : ℕ) (locals : List Value) (out : List Local) (n : Numbers)
-    → IsTooLargeSide a.room depth (taken_apart_in scope a.stack.items steps p q (take outside a.stack.items) (numbers_of a)).process
+    → IsTooLargeSide a.nodes_left depth (taken_apart_in scope a.stack.items steps p q (take outside a.stack.items) (numbers_of a)).process
     → locals_from scope.first a.stack.items ≡ locals → take outside a.stack.items ≡ out → numbers_of a ≡ n
-    → IsTooLargeSide a.room depth (taken_apart scope.private_names.now steps locals (expansion_of scope.private_names.now scope.definitions.now p) (written_in scope out q) n).process
+    → IsTooLargeSide a.nodes_left depth (taken_apart scope.private_names.now steps locals (expansion_of scope.private_names.now scope.definitions.now p) (written_in scope out q) n).process
 large_fits_at scope a depth steps p q outside locals out n h e o m =
     let E : List Value → List Local → Numbers → Expansion = λ x y z. taken_apart scope.private_names.now steps x (expansion_of scope.private_names.now scope.definitions.now p)
     (written_in scope y q) z in
-    let P : List Value → Type 0 = λ x. IsTooLargeSide a.room depth (E x (take outside a.stack.items) (numbers_of a)).process in
-    let Q : List Local → Type 0 = λ y. IsTooLargeSide a.room depth (E locals y (numbers_of a)).process in
-    let R : Numbers → Type 0 = λ z. IsTooLargeSide a.room depth (E locals out z).process in
+    let P : List Value → Type 0 = λ x. IsTooLargeSide a.nodes_left depth (E x (take outside a.stack.items) (numbers_of a)).process in
+    let Q : List Local → Type 0 = λ y. IsTooLargeSide a.nodes_left depth (E locals y (numbers_of a)).process in
+    let R : Numbers → Type 0 = λ z. IsTooLargeSide a.nodes_left depth (E locals out z).process in
     subst R m (subst Q o (subst P e h))
 
 -- two parts behind terms
@@ -109,12 +109,12 @@ two_written {w0} {w} {v} {x} {below} {k} {ps} {n} {f} {o} {left} {left2} depth j
 
 -- a part that is too large
 pub large_behind : {w0 w : Writer} {cs : List ChannelUse} {ps : List PrivateUse} {n : Numbers} {k : ℕ} (depth below : ℕ) (part whole : Process)
-    → IsAdded w0 w cs ps n k → below + 1 ≡ depth → IsTooLargeSide w.room below part → k + size part ≤ size whole → process_height part + 1 ≤ process_height whole → IsTooLargeSide w0.room depth whole
+    → IsAdded w0 w cs ps n k → below + 1 ≡ depth → IsTooLargeSide w.nodes_left below part → k + size part ≤ size whole → process_height part + 1 ≤ process_height whole → IsTooLargeSide w0.nodes_left depth whole
 large_behind {w0} {w} {cs} {ps} {n} {k} depth below part whole h d (inl a) s l = inl (omega (arith, h.taken))
 large_behind {w0} {w} {cs} {ps} {n} {k} depth below part whole h d (inr a) s l = inr (omega arith)
 
 pub large_term_behind : {w0 w : Writer} {cs : List ChannelUse} {ps : List PrivateUse} {n : Numbers} {k : ℕ} (depth below : ℕ) (t : Tree) (whole : Process)
-    → IsAdded w0 w cs ps n k → below + 1 ≡ depth → IsTooLargeTerm w.room below t → k + node_count t ≤ size whole → height t + 1 ≤ process_height whole → IsTooLargeSide w0.room depth whole
+    → IsAdded w0 w cs ps n k → below + 1 ≡ depth → IsTooLargeTerm w.nodes_left below t → k + node_count t ≤ size whole → height t + 1 ≤ process_height whole → IsTooLargeSide w0.nodes_left depth whole
 large_term_behind {w0} {w} {cs} {ps} {n} {k} depth below t whole h d (inl a) s l = inl (omega (arith, h.taken))
 large_term_behind {w0} {w} {cs} {ps} {n} {k} depth below t whole h d (inr a) s l = inr (omega arith)
 
@@ -136,9 +136,9 @@ some_node (process.input c x p) = (omega arith, omega arith)
 some_node (process.output c u p) = (omega arith, omega arith)
 
 -- where no node is left, every process is too large
-pub none_left : (room depth : ℕ) (p : Process) → (room ≡ 0) ⊎ (depth ≡ 0) → IsTooLargeSide room depth p
-none_left room depth p (inl e) = inl (omega (arith, (some_node p).0))
-none_left room depth p (inr e) = inr (omega (arith, (some_node p).1))
+pub none_left : (nodes_left depth : ℕ) (p : Process) → (nodes_left ≡ 0) ⊎ (depth ≡ 0) → IsTooLargeSide nodes_left depth p
+none_left nodes_left depth p (inl e) = inl (omega (arith, (some_node p).0))
+none_left nodes_left depth p (inr e) = inr (omega (arith, (some_node p).1))
 
 pub head_tail : (ps : List Body) (p : Body) → 0 < length ps → p ≡ get_or ps 0 p → ps ≡ p ∷ drop 1 ps
 head_tail [] p h e = absurd (omega arith)

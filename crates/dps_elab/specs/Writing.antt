@@ -27,7 +27,7 @@ pub record IsAdded (old new : Writer) (channels : List ChannelUse) (privates : L
   pub channels_then : new.channels.items ≡ old.channels.items ++ channels
   pub privates_then : new.privates.items ≡ old.privates.items ++ privates
   pub numbers : numbers_of new ≡ next
-  pub taken : new.room + nodes ≡ old.room
+  pub taken : new.nodes_left + nodes ≡ old.nodes_left
 
 -- A process was written: it is the expansion's, and what the expansion adds was added. What is on the stack then is `left`.
 pub record IsWritten (old new : Writer) (depth : ℕ) (left : List Local) (e : Expansion) (p : Process) : Type 0 where
@@ -72,30 +72,30 @@ pub record IsNodeTaken (old new : Writer) (depth below : ℕ) : Type 0 where
 
 -- Too many nodes for those that are left, or too many on a path.
 abbrev pub IsTooLargeTerm : ℕ → ℕ → Tree → Type 0
-IsTooLargeTerm room depth t = (room < node_count t) ⊎ (depth < height t)
+IsTooLargeTerm nodes_left depth t = (nodes_left < node_count t) ⊎ (depth < height t)
 
 abbrev pub AreTooLarge : ℕ → ℕ → List Tree → Type 0
-AreTooLarge room depth ts = (room < node_counts (trees ts)) ⊎ (depth < heights (trees ts))
+AreTooLarge nodes_left depth ts = (nodes_left < node_counts (trees ts)) ⊎ (depth < heights (trees ts))
 
 abbrev pub IsTooLargeSide : ℕ → ℕ → Process → Type 0
-IsTooLargeSide room depth p = (room < size p) ⊎ (depth < process_height p)
+IsTooLargeSide nodes_left depth p = (nodes_left < size p) ⊎ (depth < process_height p)
 
 -- A term was built: its nodes were taken from those that were left, and no path has more than `depth` of them.
-pub record IsBuilt (room left depth : ℕ) (t built : Tree) : Type 0 where
+pub record IsBuiltWithin (before after depth : ℕ) (t built : Tree) : Type 0 where
   pub same : built ≡ t
-  pub nodes : left + node_count t ≡ room
+  pub nodes : after + node_count t ≡ before
   pub low : height t ≤ depth
 
 -- the same of a term that was put before others
-pub record IsPut (room left depth : ℕ) (t : Tree) (old new : List Tree) : Type 0 where
+pub record IsPut (before after depth : ℕ) (t : Tree) (old new : List Tree) : Type 0 where
   pub put : new ≡ t ∷ old
-  pub nodes : left + node_count t ≡ room
+  pub nodes : after + node_count t ≡ before
   pub low : height t ≤ depth
 
 -- and of arguments
-pub record ArePut (room left depth : ℕ) (ts old new : List Tree) : Type 0 where
+pub record ArePut (before after depth : ℕ) (ts old new : List Tree) : Type 0 where
   pub put : new ≡ ts ++ old
-  pub nodes : left + node_counts (trees ts) ≡ room
+  pub nodes : after + node_counts (trees ts) ≡ before
   pub low : heights (trees ts) ≤ depth
 
 -- the body that a value that does not fit goes on with
@@ -115,7 +115,7 @@ abbrev pub IsBodyWritten : Writer → Writer → Scope → ℕ → Body → Proc
 IsBodyWritten old new scope depth body p = IsWritten old new depth old.stack.items (written_in scope old.stack.items body (numbers_of old)) p
 
 abbrev pub IsTooLargeBody : Writer → Scope → ℕ → Body → Type 0
-IsTooLargeBody old scope depth body = IsTooLargeSide old.room depth (written_in scope old.stack.items body (numbers_of old)).process
+IsTooLargeBody old scope depth body = IsTooLargeSide old.nodes_left depth (written_in scope old.stack.items body (numbers_of old)).process
 
 -- The body and so many further copies of it were written.
 abbrev pub AreCopiesWritten : Writer → Writer → Scope → ℕ → ℕ → Body → Process → Type 0
@@ -124,7 +124,7 @@ AreCopiesWritten old new scope depth further body p =
 
 abbrev pub AreTooLargeCopies : Writer → Scope → ℕ → ℕ → Body → Type 0
 AreTooLargeCopies old scope depth further body =
-    IsTooLargeSide old.room depth (and_copies further (written_in scope old.stack.items body) (numbers_of old)).process
+    IsTooLargeSide old.nodes_left depth (and_copies further (written_in scope old.stack.items body) (numbers_of old)).process
 
 -- What takes a value apart by these steps was written, and what is outside the pattern is on the stack then.
 abbrev pub apart_in : Writer → Scope → List Step → Pattern → Expansion
@@ -136,4 +136,4 @@ abbrev pub IsTakenApart : Writer → Writer → Scope → ℕ → List Step → 
 IsTakenApart old new scope depth steps pattern p = IsWritten old new depth (take pattern.outside old.stack.items) (apart_in old scope steps pattern) p
 
 abbrev pub IsTooLargeApart : Writer → Scope → ℕ → List Step → Pattern → Type 0
-IsTooLargeApart old scope depth steps pattern = IsTooLargeSide old.room depth (apart_in old scope steps pattern).process
+IsTooLargeApart old scope depth steps pattern = IsTooLargeSide old.nodes_left depth (apart_in old scope steps pattern).process

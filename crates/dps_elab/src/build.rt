@@ -6,7 +6,7 @@ ghost use Rattle.dps_terms.specs.Seen.{seen};
 ghost use Rattle.dps_terms.specs.Views.{view_of, arguments};
 ghost use Rattle.dps_elab.specs.Expansion.{value_at, tree_in, privates_of, declared_name};
 ghost use Rattle.dps_elab.specs.Locals.{in_frame, values};
-ghost use Rattle.dps_elab.specs.Writing.{IsBuilt, IsPut, IsTooLargeTerm, ArePut, AreTooLarge};
+ghost use Rattle.dps_elab.specs.Writing.{IsBuiltWithin, IsPut, IsTooLargeTerm, ArePut, AreTooLarge};
 
 use crate::local::{Frame, Local, local_at};
 use crate::{PrivateUse, Stop};
@@ -15,17 +15,17 @@ use dps_terms::{NoMemory, PublicName, Sym, Term, TermLeaf, TermRef, TermStack, T
 use std::alloc::{AllocError, Global};
 
 /// Takes one node from those that are left, and says how many may be on a path behind it.
-pub(crate) fn take_node(room: &mut u32, depth: u32) -> Result<u32, Stop>
-    ensures ok { IfOk result (λ left. (left + 1 ≡ depth) × (room.new + 1 ≡ room.old)) }
-    ensures large { result ≡ Err Stop.TooLarge → (room.old ≡ 0) ⊎ (depth ≡ 0) }
+pub(crate) fn take_node(nodes_left: &mut u32, depth: u32) -> Result<u32, Stop>
+    ensures ok { IfOk result (λ left. (left + 1 ≡ depth) × (nodes_left.new + 1 ≡ nodes_left.old)) }
+    ensures large { result ≡ Err Stop.TooLarge → (nodes_left.old ≡ 0) ⊎ (depth ≡ 0) }
 {
-    if *room == 0 {
+    if *nodes_left == 0 {
         return Err(Stop::TooLarge);
     }
     if depth == 0 {
         return Err(Stop::TooLarge);
     }
-    *room -= 1;
+    *nodes_left -= 1;
     Ok(depth - 1)
 }
 
@@ -36,14 +36,14 @@ pub(crate) fn build(
     stack: &[Local<'_>],
     frame: Frame,
     term: TermRef<'_>,
-    room: &mut u32,
+    nodes_left: &mut u32,
     depth: u32,
 ) -> Result<Term, Stop>
-    ensures ok { IfOk result (λ t. IsBuilt room.old room.new depth (tree_in (in_frame (values stack.now) frame) (seen term.entry)) t) }
-    ensures large { result ≡ Err Stop.TooLarge → IsTooLargeTerm room.old depth (tree_in (in_frame (values stack.now) frame) (seen term.entry)) }
+    ensures ok { IfOk result (λ t. IsBuiltWithin nodes_left.old nodes_left.new depth (tree_in (in_frame (values stack.now) frame) (seen term.entry)) t) }
+    ensures large { result ≡ Err Stop.TooLarge → IsTooLargeTerm nodes_left.old depth (tree_in (in_frame (values stack.now) frame) (seen term.entry)) }
 {
     let mut built = TermStack::empty(alloc);
-    put_term(stack, frame, term, room, depth, &mut built)?;
+    put_term(stack, frame, term, nodes_left, depth, &mut built)?;
     Ok(built.into_term())
 }
 
@@ -53,14 +53,14 @@ pub(crate) fn build_local(
     stack: &[Local<'_>],
     frame: Frame,
     number: usize,
-    room: &mut u32,
+    nodes_left: &mut u32,
     depth: u32,
 ) -> Result<Term, Stop>
-    ensures ok { IfOk result (λ t. IsBuilt room.old room.new depth ((value_at (in_frame (values stack.now) frame) number).tree) t) }
-    ensures large { result ≡ Err Stop.TooLarge → IsTooLargeTerm room.old depth ((value_at (in_frame (values stack.now) frame) number).tree) }
+    ensures ok { IfOk result (λ t. IsBuiltWithin nodes_left.old nodes_left.new depth ((value_at (in_frame (values stack.now) frame) number).tree) t) }
+    ensures large { result ≡ Err Stop.TooLarge → IsTooLargeTerm nodes_left.old depth ((value_at (in_frame (values stack.now) frame) number).tree) }
 {
     let mut built = TermStack::empty(alloc);
-    put_local(stack, frame, number, room, depth, &mut built)?;
+    put_local(stack, frame, number, nodes_left, depth, &mut built)?;
     Ok(built.into_term())
 }
 
@@ -71,15 +71,15 @@ pub(crate) fn build_projection(
     frame: Frame,
     projection: Sym,
     number: usize,
-    room: &mut u32,
+    nodes_left: &mut u32,
     depth: u32,
 ) -> Result<Term, Stop>
-    ensures ok { IfOk result (λ t. IsBuilt room.old room.new depth (app projection (trees ((value_at (in_frame (values stack.now) frame) number).tree ∷ []))) t) }
-    ensures large { result ≡ Err Stop.TooLarge → IsTooLargeTerm room.old depth (app projection (trees ((value_at (in_frame (values stack.now) frame) number).tree ∷ []))) }
+    ensures ok { IfOk result (λ t. IsBuiltWithin nodes_left.old nodes_left.new depth (app projection (trees ((value_at (in_frame (values stack.now) frame) number).tree ∷ []))) t) }
+    ensures large { result ≡ Err Stop.TooLarge → IsTooLargeTerm nodes_left.old depth (app projection (trees ((value_at (in_frame (values stack.now) frame) number).tree ∷ []))) }
 {
-    let depth = take_node(room, depth)?;
+    let depth = take_node(nodes_left, depth)?;
     let mut built = TermStack::empty(alloc);
-    put_local(stack, frame, number, room, depth, &mut built)?;
+    put_local(stack, frame, number, nodes_left, depth, &mut built)?;
     built.apply(projection, 1)?;
     Ok(built.into_term())
 }
@@ -91,23 +91,23 @@ fn put_term(
     stack: &[Local<'_>],
     frame: Frame,
     term: TermRef<'_>,
-    room: &mut u32,
+    nodes_left: &mut u32,
     depth: u32,
     built: &mut TermStack,
 ) -> Result<(), Stop>
-    ensures ok { OnOk result (IsPut room.old room.new depth (tree_in (in_frame (values stack.now) frame) (seen term.entry)) built.old built.new) }
-    ensures large { result ≡ Err Stop.TooLarge → IsTooLargeTerm room.old depth (tree_in (in_frame (values stack.now) frame) (seen term.entry)) }
+    ensures ok { OnOk result (IsPut nodes_left.old nodes_left.new depth (tree_in (in_frame (values stack.now) frame) (seen term.entry)) built.old built.new) }
+    ensures large { result ≡ Err Stop.TooLarge → IsTooLargeTerm nodes_left.old depth (tree_in (in_frame (values stack.now) frame) (seen term.entry)) }
 {
     match term.view() {
-        TermView::Var(number) => put_local(stack, frame, number as usize, room, depth, built),
+        TermView::Var(number) => put_local(stack, frame, number as usize, nodes_left, depth, built),
         TermView::App(sym) => {
-            let depth = take_node(room, depth)?;
-            put_arguments(stack, frame, term, room, depth, built)?;
+            let depth = take_node(nodes_left, depth)?;
+            put_arguments(stack, frame, term, nodes_left, depth, built)?;
             built.apply(sym, term.arity())?;
             Ok(())
         }
         _ => {
-            take_node(room, depth)?;
+            take_node(nodes_left, depth)?;
             built.push(term)?;
             Ok(())
         }
@@ -120,17 +120,17 @@ fn put_arguments(
     stack: &[Local<'_>],
     frame: Frame,
     term: TermRef<'_>,
-    room: &mut u32,
+    nodes_left: &mut u32,
     depth: u32,
     built: &mut TermStack,
 ) -> Result<(), Stop>
-    ensures ok { OnOk result (ArePut room.old room.new depth (map (tree_in (in_frame (values stack.now) frame)) (arguments (seen term.entry))) built.old built.new) }
-    ensures large { result ≡ Err Stop.TooLarge → AreTooLarge room.old depth (map (tree_in (in_frame (values stack.now) frame)) (arguments (seen term.entry))) }
+    ensures ok { OnOk result (ArePut nodes_left.old nodes_left.new depth (map (tree_in (in_frame (values stack.now) frame)) (arguments (seen term.entry))) built.old built.new) }
+    ensures large { result ≡ Err Stop.TooLarge → AreTooLarge nodes_left.old depth (map (tree_in (in_frame (values stack.now) frame)) (arguments (seen term.entry))) }
 {
     let mut left = term.arity();
     while left > 0 {
         left -= 1;
-        put_term(stack, frame, term.argument(left), room, depth, built)?;
+        put_term(stack, frame, term.argument(left), nodes_left, depth, built)?;
     }
     Ok(())
 }
@@ -141,28 +141,33 @@ fn put_local(
     stack: &[Local<'_>],
     frame: Frame,
     number: usize,
-    room: &mut u32,
+    nodes_left: &mut u32,
     depth: u32,
     built: &mut TermStack,
 ) -> Result<(), Stop>
-    ensures ok { OnOk result (IsPut room.old room.new depth ((value_at (in_frame (values stack.now) frame) number).tree) built.old built.new) }
-    ensures large { result ≡ Err Stop.TooLarge → IsTooLargeTerm room.old depth ((value_at (in_frame (values stack.now) frame) number).tree) }
+    ensures ok { OnOk result (IsPut nodes_left.old nodes_left.new depth ((value_at (in_frame (values stack.now) frame) number).tree) built.old built.new) }
+    ensures large { result ≡ Err Stop.TooLarge → IsTooLargeTerm nodes_left.old depth ((value_at (in_frame (values stack.now) frame) number).tree) }
 {
     match local_at(stack, frame, number) {
-        Local::Variable(variable) => put_leaf(TermLeaf::Var(variable), room, depth, built),
-        Local::Name(name) => put_leaf(TermLeaf::Private(name), room, depth, built),
+        Local::Variable(variable) => put_leaf(TermLeaf::Var(variable), nodes_left, depth, built),
+        Local::Name(name) => put_leaf(TermLeaf::Private(name), nodes_left, depth, built),
         Local::Argument(written, outer) => {
-            put_term(stack, outer, written.tree.whole(), room, depth, built)
+            put_term(stack, outer, written.tree.whole(), nodes_left, depth, built)
         }
     }
 }
 
 /// Puts a leaf in front.
-fn put_leaf(leaf: TermLeaf, room: &mut u32, depth: u32, built: &mut TermStack) -> Result<(), Stop>
-    ensures ok { OnOk result (IsPut room.old room.new depth (leaf_tree (leaf_seen leaf)) built.old built.new) }
-    ensures large { result ≡ Err Stop.TooLarge → IsTooLargeTerm room.old depth (leaf_tree (leaf_seen leaf)) }
+fn put_leaf(
+    leaf: TermLeaf,
+    nodes_left: &mut u32,
+    depth: u32,
+    built: &mut TermStack,
+) -> Result<(), Stop>
+    ensures ok { OnOk result (IsPut nodes_left.old nodes_left.new depth (leaf_tree (leaf_seen leaf)) built.old built.new) }
+    ensures large { result ≡ Err Stop.TooLarge → IsTooLargeTerm nodes_left.old depth (leaf_tree (leaf_seen leaf)) }
 {
-    take_node(room, depth)?;
+    take_node(nodes_left, depth)?;
     built.push_leaf(leaf)?;
     Ok(())
 }

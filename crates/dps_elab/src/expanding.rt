@@ -28,7 +28,7 @@ pub struct Sides {
 /// Writes out the sides of a program.
 ///
 /// Calls are replaced by what they call, copies stand side by side, patterns are taken apart, and each bound variable
-/// and each new name has a number of its own. Arguments that are not used take no room, and the walk stops where a side
+/// and each new name has a number of its own. Arguments that are not used take nothing, and the walk stops where a side
 /// passes its limits.
 ///
 /// # Errors

@@ -21,9 +21,9 @@ impl<'a> Writer<'a> {
     /// Takes a node from those that are left, and says how many may be on a path behind it.
     pub(crate) fn take_node(&mut self, depth: u32) -> Result<u32, Stop>
         ensures ok { IfOk result (λ below. IsNodeTaken self.old self.new depth below) }
-        ensures large { result ≡ Err Stop.TooLarge → (self.old.room ≡ 0) ⊎ (depth ≡ 0) }
+        ensures large { result ≡ Err Stop.TooLarge → (self.old.nodes_left ≡ 0) ⊎ (depth ≡ 0) }
     {
-        take_node(&mut self.room, depth)
+        take_node(&mut self.nodes_left, depth)
     }
 
     /// Numbers a variable, which is the next local.
@@ -54,7 +54,7 @@ impl<'a> Writer<'a> {
         Ok(name.unwrap_or(0))
     }
 
-    /// Builds a term, and notes its private names. It is behind a box, so that it takes no room on the stack while what
+    /// Builds a term, and notes its private names. It is behind a box, so that it takes no space on the stack while what
     /// stands behind it is written.
     pub(crate) fn term(
         &mut self,
@@ -64,7 +64,7 @@ impl<'a> Writer<'a> {
         depth: u32,
     ) -> Result<Box<Term>, Stop>
         ensures ok { IfOk result (λ t. IsTermWritten self.old self.new depth (value_of (locals_from scope.entry.first self.old.stack.items) written.now) t.value) }
-        ensures large { result ≡ Err Stop.TooLarge → IsTooLargeTerm self.old.room depth ((value_of (locals_from scope.entry.first self.old.stack.items) written.now).tree) }
+        ensures large { result ≡ Err Stop.TooLarge → IsTooLargeTerm self.old.nodes_left depth ((value_of (locals_from scope.entry.first self.old.stack.items) written.now).tree) }
     {
         let frame = Frame {
             first: scope.first,
@@ -76,7 +76,7 @@ impl<'a> Writer<'a> {
             self.stack.as_slice(),
             frame,
             tree,
-            &mut self.room,
+            &mut self.nodes_left,
             depth,
         )?;
         let uses = written.uses.as_slice();
@@ -94,14 +94,14 @@ impl<'a> Writer<'a> {
         depth: u32,
     ) -> Result<Box<Term>, Stop>
         ensures ok { IfOk result (λ t. IsTermWritten self.old self.new depth (record { tree = (value_at (locals_from scope.entry.first self.old.stack.items) number).tree; privates = [] }) t.value) }
-        ensures large { result ≡ Err Stop.TooLarge → IsTooLargeTerm self.old.room depth ((value_at (locals_from scope.entry.first self.old.stack.items) number).tree) }
+        ensures large { result ≡ Err Stop.TooLarge → IsTooLargeTerm self.old.nodes_left depth ((value_at (locals_from scope.entry.first self.old.stack.items) number).tree) }
     {
         let frame = Frame {
             first: scope.first,
             end: self.stack.len(),
         };
         let stack = self.stack.as_slice();
-        let built = build_local(alloc, stack, frame, number, &mut self.room, depth)?;
+        let built = build_local(alloc, stack, frame, number, &mut self.nodes_left, depth)?;
         let boxed = Box::new(alloc, built)?;
         Ok(boxed)
     }
@@ -116,7 +116,7 @@ impl<'a> Writer<'a> {
         depth: u32,
     ) -> Result<Box<Term>, Stop>
         ensures ok { IfOk result (λ t. IsTermWritten self.old self.new depth (record { tree = app projection (trees ((value_at (locals_from scope.entry.first self.old.stack.items) number).tree ∷ [])); privates = [] }) t.value) }
-        ensures large { result ≡ Err Stop.TooLarge → IsTooLargeTerm self.old.room depth (app projection (trees ((value_at (locals_from scope.entry.first self.old.stack.items) number).tree ∷ []))) }
+        ensures large { result ≡ Err Stop.TooLarge → IsTooLargeTerm self.old.nodes_left depth (app projection (trees ((value_at (locals_from scope.entry.first self.old.stack.items) number).tree ∷ []))) }
     {
         let frame = Frame {
             first: scope.first,
@@ -129,7 +129,7 @@ impl<'a> Writer<'a> {
             frame,
             projection,
             number,
-            &mut self.room,
+            &mut self.nodes_left,
             depth,
         )?;
         let boxed = Box::new(alloc, built)?;

@@ -43,7 +43,7 @@ pub(crate) struct Writer<'a> {
     pub(crate) privates: Vec<PrivateUse>,
     pub(crate) variable: u64,
     pub(crate) name: u64,
-    pub(crate) room: u32,
+    pub(crate) nodes_left: u32,
 }
 
 impl<'a> Writer<'a> {
@@ -62,7 +62,7 @@ impl<'a> Writer<'a> {
             privates: Vec::new(alloc),
             variable: FIRST_VARIABLE,
             name,
-            room: 0,
+            nodes_left: 0,
         }
     }
 
@@ -78,7 +78,7 @@ impl<'a> Writer<'a> {
         ensures ok { IfOk result (λ p. IsSideWritten self.old self.new (expansion_of private_names.now definitions.now body.now [] (numbers_of self.old)) p) }
         ensures large { result ≡ Err Stop.TooLarge → is_too_large (expansion_of private_names.now definitions.now body.now [] (numbers_of self.old)).process ≡ true }
     {
-        self.room = MOST_NODES;
+        self.nodes_left = MOST_NODES;
         let scope = Scope {
             private_names,
             definitions,
@@ -146,7 +146,7 @@ impl<'a> Writer<'a> {
     /// Writes `0`.
     fn nil(&mut self, depth: u32) -> Result<Process, Stop>
         ensures ok { IfOk result (λ p. IsWritten self.old self.new depth (self.old.stack.items) (nothing (numbers_of self.old)) p) }
-        ensures large { result ≡ Err Stop.TooLarge → IsTooLargeSide self.old.room depth ((nothing (numbers_of self.old)).process) }
+        ensures large { result ≡ Err Stop.TooLarge → IsTooLargeSide self.old.nodes_left depth ((nothing (numbers_of self.old)).process) }
     {
         self.take_node(depth)?;
         Ok(Process::nil())

@@ -4,6 +4,7 @@ pub mod Fitting
 pub mod PlainNames
 pub mod PlainBodies
 pub mod PlainProcesses
+pub mod DeclarationRows
 pub mod PlainPrograms
 pub mod PlainTheories
 pub mod PlainSides

@@ -1,38 +1,34 @@
 -- What a file says that uses nothing that is not judged yet: constructors without tuples, public names, no rules, and
 -- processes of `0`, `|`, copies, `new`, outputs and calls.
-use Rattle.std.proofs.Common.{◌≡◌, ◌⊎◌, ℕ, ◌<◌, Bool, true, false, ◌&&◌, ◌||◌, if◌then◌else◌, leb, List, [], ◌∷◌, ◌++◌, Option, Some, None, length, get_or, refl, sym, ap, subst, ◌∙◌, inl, inr}
+use Rattle.std.proofs.Common.{◌≡◌, ℕ, Bool, true, false, ◌&&◌, ◌||◌, leb, List, [], ◌∷◌, ◌++◌, None, length, refl, sym, ap, subst, ◌∙◌}
 use Rattle.std.specs.Prelude.{not}
 use Rattle.std.specs.List.{All}
 use Rattle.std.proofs.lemmas.List.Elements.{All-nil, All-head, All-tail, All-push}
 use Rattle.dps_lex.specs.declared.vocabulary.TokenKind.TheVariants as kind
 use Rattle.dps_signature.specs.declared.SymKind.TheVariants.{Constructor}
 use Rattle.dps_signature.specs.Signature.{Symbol, Name, Signature}
-use Rattle.dps_signature.specs.Names.{with_symbol, with_name}
-use Rattle.dps_syntax.specs.declared.grammar.Word.{Word}
-use Rattle.dps_syntax.specs.declared.grammar.Production.{Production}
+use Rattle.dps_signature.specs.Names.{with_name}
 use Rattle.dps_syntax.specs.declared.grammar.Production.TheVariants as production
 use Rattle.dps_syntax.specs.declared.grammar.More.TheVariants as more
-use Rattle.dps_syntax.specs.declared.grammar.Symbol.TheVariants.{Sign, Inner, More, Close}
-use Rattle.dps_syntax.specs.declared.grammar.Symbol.{Symbol as GrammarSymbol}
+use Rattle.dps_syntax.specs.declared.grammar.Symbol.TheVariants.{Inner, More}
 use Rattle.dps_syntax.specs.declared.tree.Decl.{Decl}
 use Rattle.dps_syntax.specs.declared.tree.Decl.TheVariants.{Free, Const, Fun, Reduc, Define, Query}
-use Rattle.dps_syntax.specs.Tree.{Lexeme, Parts, none, token, inner as within, words}
-use Rattle.dps_syntax.specs.Files.{tree_of, trees_of, first_kind, HasItsKeyword}
-use Rattle.dps_syntax.specs.Grammar.{Derives, done as nothing, sign, inner, taken, left, sign_of}
-use Rattle.dps_scopes.specs.Outcome.{Outcome, done, faulty, and_then, fault_at}
+use Rattle.dps_syntax.specs.Tree.{Lexeme, Parts, none, token, inner as within}
+use Rattle.dps_syntax.specs.Files.{tree_of, trees_of, HasItsKeyword}
+use Rattle.dps_syntax.specs.Grammar.{Derives}
+use Rattle.dps_scopes.specs.Outcome.{Outcome, done, faulty}
 use Rattle.dps_scopes.specs.Scopes.{Locals, is_word, is_handle, begins_as_projection, is_reserved, is_unknown, declared_meaning, most_arguments}
 use Rattle.dps_scopes.specs.Terms.{is_kind}
-use Rattle.dps_names.specs.Program.{Program, Definition, WrittenRule, Body, parallel, empty}
-use Rattle.dps_names.specs.declared.program.Side.{Side}
-use Rattle.dps_names.specs.Processes.{number_of, is_among, joined, parallels}
-use Rattle.dps_names.specs.Declarations.{with_signature, with_definition, with_sides, declaring, declare_names, is_marked_private, names, with_constructor, functions, rules}
+use Rattle.dps_names.specs.Program.{Program, Definition, Body, empty}
+use Rattle.dps_names.specs.Processes.{number_of, is_among, parallels}
+use Rattle.dps_names.specs.Declarations.{with_signature, declaring, declare_names, is_marked_private, names, with_constructor, functions}
 use Rattle.dps_names.specs.Declarations.{parameters, in_signature, body_of, define_with, define, side, query, declaration, declarations, names_of}
-use Rattle.dps_judge.specs.Unbuilt.{is_unbuilt_word, is_unbuilt, opening, first_unbuilt}
-use Rattle.dps_judge.proofs.Rows.{IsClean, clean, IsOf, IsTree, IsRow, holds, row}
-use Rattle.dps_judge.proofs.Fitting.{Fits, fits}
+use Rattle.dps_judge.specs.Unbuilt.{first_unbuilt}
+use Rattle.dps_judge.proofs.Rows.{IsClean, clean, IsRow}
 use Rattle.dps_judge.proofs.PlainNames.{OnDone, on_then, on_if}
 use Rattle.dps_judge.proofs.PlainBodies.{IsPlainBody, EachIsPlain, joined_plain}
-use Rattle.dps_judge.proofs.PlainProcesses.{PlainlyAll, parallels_plain, par_row}
+use Rattle.dps_judge.proofs.PlainProcesses.{PlainlyAll, parallels_plain}
+use Rattle.dps_judge.proofs.DeclarationRows.{IsDeclaration, first_row, second_row, query_rows, no_reduc, declaration_clean, AreDeclarations, all_declarations, one_declaration}
 
 -- a constructor that is no tuple's
 pub record IsPlainSymbol (s : Symbol) : Type 0 where
@@ -198,102 +194,6 @@ parameters_keep (token l parts) texts program =
     (λ e. on_if (is_among l.text texts) _ _ (Texts_of program) (λ k. record { holds = tt }) (λ k. parameters_keep parts (texts ++ l.text ∷ []) program))
     (λ e. parameters_keep parts texts program)
 
--- a declaration, or the query
-pub data IsDeclaration (parts : Parts) : Type 0 where
-  as_decl : IsOf production.Decl parts → IsClean production.Decl parts → IsDeclaration parts
-  as_query : IsOf production.Query parts → IsClean production.Query parts → IsDeclaration parts
-
-abbrev Body_symbols : List GrammarSymbol
-Body_symbols = sign_of kind.Equals ∷ Inner production.Par ∷ sign_of kind.Dot ∷ []
-
-abbrev Parameter_symbols : List GrammarSymbol
-Parameter_symbols = sign_of kind.OpenParenthesis ∷ Inner production.Ids ∷ sign_of kind.CloseParenthesis ∷ Body_symbols
-
-parameters_fit : {parts : Parts} {after : List Word} → Derives (More more.Parameters ∷ Body_symbols) parts after → Fits Body_symbols parts ⊎ Fits Parameter_symbols parts
-parameters_fit (left e d) = inl (fits d)
-parameters_fit (taken d) = inr (fits d)
-
-abbrev Query_symbols : List GrammarSymbol
-Query_symbols =
-    sign_of kind.Query ∷ sign_of kind.TraceEquiv ∷ sign_of kind.OpenParenthesis ∷ Inner production.Par ∷ sign_of kind.Comma ∷ Inner production.Par ∷ sign_of kind.CloseParenthesis ∷ sign_of
-    kind.Dot ∷ []
-
-query_fits : (parts : Parts) → IsOf production.Query parts → Fits Query_symbols parts
-query_fits parts of =
-    elim of.one [
-      | inl e ↦ fits (subst (λ i. Derives i parts of.after) e of.derived)
-      | inr h ↦ absurd h
-    ]
-
--- a declaration whose second part is a token is one of functions or of a process
-data IsLong (parts : Parts) : Type 0 where
-  of_functions : Fits (sign_of kind.Fun ∷ sign_of kind.Identifier ∷ sign_of kind.Slash ∷ sign_of kind.Number ∷ More more.Functions ∷ sign_of kind.Dot ∷ []) parts → IsLong parts
-  of_process : Fits (sign_of kind.Let ∷ sign_of kind.Identifier ∷ More more.Parameters ∷ Body_symbols) parts → IsLong parts
-
-long : (word name : Lexeme) (parts : Parts) → IsOf production.Decl (token word (token name parts)) → IsLong (token word (token name parts))
-long word name parts of =
-    elim of.one [
-      | inl e ↦
-          let f : Fits (sign_of kind.Free ∷ Inner production.Ids ∷ More more.Private ∷ sign_of kind.Dot ∷ []) (token word (token name parts)) = fits (at _ e) in
-          absurd f.1
-      | inr h ↦ elim h [
-        | inl e ↦
-            let f : Fits (sign_of kind.Const ∷ Inner production.Ids ∷ More more.Private ∷ sign_of kind.Dot ∷ []) (token word (token name parts)) = fits (at _ e) in
-            absurd f.1
-        | inr h ↦ elim h [
-          | inl e ↦ of_functions (fits (at _ e))
-          | inr h ↦ elim h [
-            | inl e ↦
-                let f : Fits (sign_of kind.Reduc ∷ Inner production.Rule ∷ More more.Rules ∷ sign_of kind.Dot ∷ []) (token word (token name parts)) = fits (at _ e) in
-                absurd f.1
-            | inr h ↦ elim h [
-              | inl e ↦ of_process (fits (at _ e))
-              | inr h ↦ absurd h
-            ]
-          ]
-        ]
-      ]
-    ]
-  where
-    at : (alternative : List GrammarSymbol) → of.items ≡ alternative → Derives alternative (token word (token name parts)) of.after
-    at alternative e = subst (λ i. Derives i (token word (token name parts)) of.after) e of.derived
-
-ids_row : (p : Production) (parts : Parts) → IsOf production.Ids parts → IsClean p parts → IsRow production.Sum parts
-ids_row p parts of c =
-    elim of.one [
-      | inl e ↦ row production.Sum p of.derived (ap (holds production.Sum) e) c
-      | inr h ↦ absurd h
-    ]
-
-sum_row : (p : Production) (parts : Parts) → p ≡ production.Par → IsOf production.Par parts → IsClean p parts → IsRow production.Sum parts
-sum_row p parts e of c = par_row parts of (subst (λ x. IsClean x parts) e c)
-
--- behind parameters
-first_row :
-    (word name bracket close equals : Lexeme) (p q : Production) (ids inside parts : Parts)
-    → IsDeclaration (token word (token name (token bracket (within p ids (token close (token equals (within q inside parts))))))) → IsRow production.Sum inside
-first_row word name bracket close equals p q ids inside parts (as_query of c) = absurd (query_fits _ of).1.1.1.2.1
-first_row word name bracket close equals p q ids inside parts (as_decl of c) =
-    elim (long word name _ of) [
-      | of_functions f ↦ absurd f.1.1.1
-      | of_process f ↦ elim (parameters_fit f.1.1.1) [
-        | inl g ↦ absurd g.1.2.1
-        | inr g ↦ sum_row q inside g.1.2.1.1.0 g.1.2.1.1.1 c.1.1.1.2.1.1.1
-      ]
-    ]
-
--- without parameters
-second_row : (word name equals : Lexeme) (p : Production) (inside parts : Parts) → IsDeclaration (token word (token name (token equals (within p inside parts)))) → IsRow production.Sum inside
-second_row word name equals p inside parts (as_query of c) = let f = query_fits _ of in sum_row p inside f.1.1.1.0 f.1.1.1.1 c.1.1.1.1
-second_row word name equals p inside parts (as_decl of c) =
-    elim (long word name _ of) [
-      | of_functions f ↦ absurd f.1.1.1
-      | of_process f ↦ elim (parameters_fit f.1.1.1) [
-        | inl g ↦ sum_row p inside g.1.0 g.1.1 c.1.1.1.1
-        | inr g ↦ ids_row p inside g.1.1 c.1.1.1.1
-      ]
-    ]
-
 define_plain : (parts : Parts) (program : Program) → IsDeclaration parts → IsPlainProgram program → OnDone (define parts program) Leaves
 define_plain (token word (token name (token bracket (within p ids (token close (token equals (within q inside parts))))))) program d plain =
     on_then (declaring name program) _ (Declares name program) Leaves (declaring_keeps name program) (λ u next h.
@@ -308,22 +208,6 @@ define_plain _ program d plain = record { holds = plain }
 
 side_plain : (parts : Parts) (program : Program) → IsRow production.Sum parts → OnDone (side parts program) (λ s after. IsPlainBody s.body × (after ≡ program))
 side_plain parts program r = on_then (body_of parts [] program) _ (Bodily program) _ (body_plain parts [] program r) (λ body after h. record { holds = h })
-
-query_rows :
-    (word relation bracket comma : Lexeme) (p q : Production) (first second parts : Parts)
-    → IsDeclaration (token word (token relation (token bracket (within p first (token comma (within q second parts))))))
-    → IsRow production.Sum first × IsRow production.Sum second
-query_rows word relation bracket comma p q first second parts (as_query of c) =
-    let f = query_fits _ of in
-    (sum_row p first f.1.1.1.0 f.1.1.1.1 c.1.1.1.1, sum_row q second f.1.1.1.2.1.0 f.1.1.1.2.1.1 c.1.1.1.2.1.1)
-query_rows word relation bracket comma p q first second parts (as_decl of c) =
-    elim (long word relation _ of) [
-      | of_functions f ↦ absurd f.1.1.1
-      | of_process f ↦ elim (parameters_fit f.1.1.1) [
-        | inl g ↦ absurd g.1.2.1
-        | inr g ↦ absurd g.1.2.1
-      ]
-    ]
 
 query_plain : (parts : Parts) (program : Program) → IsDeclaration parts → IsPlainProgram program → OnDone (query parts program) Leaves
 query_plain (token word (token relation (token bracket (within p first (token comma (within q second parts)))))) program d plain =
@@ -345,30 +229,6 @@ query_plain _ program d plain = record { holds = plain }
 
 -- each declaration
 
-no_reduc : (parts : Parts) → first_kind parts ≡ Some kind.Reduc → IsDeclaration parts → ⊥
-no_reduc none e d = cc
-no_reduc (within p inside parts) e d = cc
-no_reduc (token l parts) e (as_decl of c) =
-    let k : l.kind ≡ kind.Reduc = cc in
-    let h : is_unbuilt production.Decl (record { kind = kind.Reduc; text = l.text; line = l.line; column = l.column }) ≡ false = subst
-    (λ x. is_unbuilt production.Decl (record { kind = x; text = l.text; line = l.line; column = l.column }) ≡ false) k c.0 in
-    cc
-no_reduc (token l parts) e (as_query of c) =
-    let k : l.kind ≡ kind.Reduc = cc in
-    let h : is_unbuilt production.Query (record { kind = kind.Reduc; text = l.text; line = l.line; column = l.column }) ≡ false = subst
-    (λ x. is_unbuilt production.Query (record { kind = x; text = l.text; line = l.line; column = l.column }) ≡ false) k c.0 in
-    cc
-
--- what is not judged yet is the same in declarations and in the query
-query_clean : (parts : Parts) → IsClean production.Query parts → IsClean production.Decl parts
-query_clean none c = tt
-query_clean (token l parts) c = (c.0, query_clean parts c.1)
-query_clean (within p inside parts) c = (c.0, c.1, query_clean parts c.2)
-
-declaration_clean : (parts : Parts) → IsDeclaration parts → IsClean production.Decl parts
-declaration_clean parts (as_decl of c) = c
-declaration_clean parts (as_query of c) = query_clean parts c
-
 declaration_plain : (decl : Decl) (program : Program) → HasItsKeyword decl → IsDeclaration (tree_of decl).parts → IsPlainProgram program → OnDone (declaration decl program) Leaves
 declaration_plain (Free tree) program e d plain = names_plain tree.parts program (declaration_clean tree.parts d) plain
 declaration_plain (Const tree) program e d plain = names_plain tree.parts program (declaration_clean tree.parts d) plain
@@ -376,21 +236,6 @@ declaration_plain (Fun tree) program e d plain = functions_plain tree.parts prog
 declaration_plain (Reduc tree) program e d plain = absurd (no_reduc tree.parts e d)
 declaration_plain (Define tree) program e d plain = define_plain tree.parts program d plain
 declaration_plain (Query tree) program e d plain = query_plain tree.parts program d plain
-
--- the productions of a file
-abbrev AreDeclarations : Parts → Type 0
-AreDeclarations none = Unit {0}
-AreDeclarations (token l parts) = ⊥
-AreDeclarations (within p inside parts) = (((p ≡ production.Decl) × IsOf production.Decl inside) ⊎ ((p ≡ production.Query) × IsOf production.Query inside)) × AreDeclarations parts
-
-all_declarations : {parts : Parts} {after : List Word} → Derives (More more.Declarations ∷ Inner production.Query ∷ []) parts after → AreDeclarations parts
-all_declarations (left e (inner {parts} {after} items one d nothing)) = (inr (refl, record { items = items; one = one; after = words parts ++ after; derived = d }), tt)
-all_declarations (taken (inner {parts} {after} items one d rest)) = (inl (refl, record { items = items; one = one; after = words parts ++ after; derived = d }), all_declarations rest)
-
-one_declaration :
-    (p : Production) (parts : Parts) → ((p ≡ production.Decl) × IsOf production.Decl parts) ⊎ ((p ≡ production.Query) × IsOf production.Query parts) → IsClean p parts → IsDeclaration parts
-one_declaration p parts (inl h) c = as_decl h.1 (subst (λ x. IsClean x parts) h.0 c)
-one_declaration p parts (inr h) c = as_query h.1 (subst (λ x. IsClean x parts) h.0 c)
 
 declarations_plain :
     (decls : List Decl) (program : Program) → AreDeclarations (trees_of decls) → IsClean production.Decl (trees_of decls) → All HasItsKeyword decls

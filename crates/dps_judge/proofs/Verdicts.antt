@@ -5,7 +5,7 @@ use Rattle.dps_syntax.specs.declared.tree.Decl.{Decl}
 use Rattle.dps_process.specs.Models.{Model}
 use Rattle.dps_process.specs.Problem.{Problem}
 use Rattle.dps_meaning.specs.Causes.{cause_text}
-use Rattle.dps_meaning.specs.Meaning.{IsDeclared, Means}
+use Rattle.dps_meaning.specs.Meaning.{HasDeclarations, Means}
 use Rattle.dps_meaning.specs.Laws.{NoTextHasTwoFaults, NoTextHasTwoTheoryFaults, NoTextHasTwoFiles, NoTextHasFaultAndTheory, NoTextHasFaultAndMeaning, IsMeant, EachTextHasFaultOrMeaning}
 use Rattle.dps_judge.specs.Meaning.{MeansJudged}
 use Rattle.dps_judge.specs.Judgement.{HasNoTheory, IsUnbuilt, IsRefused, meaningless, unbuilt, not_built}

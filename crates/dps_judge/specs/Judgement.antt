@@ -9,7 +9,7 @@ use Rattle.dps_process.specs.Traces.{IsEquivalent}
 use Rattle.dps_tree.specs.Words.{word_of}
 use Rattle.dps_tree.specs.Answer.{IsLeastAttack}
 use Rattle.dps_meaning.specs.Causes.{Cause, cause_text}
-use Rattle.dps_meaning.specs.Meaning.{IsDeclared, IsProblemOf, MeansTheory}
+use Rattle.dps_meaning.specs.Meaning.{HasDeclarations, IsProblemOf, MeansTheory}
 use Rattle.dps_meaning.specs.Faults.{HasTheoryFault, HasFault}
 use Rattle.dps_judge.specs.declared.verdict.Verdict.{Verdict}
 use Rattle.dps_judge.specs.declared.verdict.Verdict.TheVariants.{Equivalent, NotEquivalent, Refused}
@@ -37,7 +37,7 @@ not_built = codes "not built"
 -- The text means a problem, and this is where it first uses what is not judged yet.
 pub record IsUnbuilt (bytes : List ℕ) (place : Place) : Type 0 where
   pub decls : List Decl
-  pub text : IsDeclared bytes decls
+  pub text : HasDeclarations bytes decls
   pub problem : Problem
   pub means : IsProblemOf decls problem
   pub first : first_unbuilt decls ≡ Some place
@@ -69,7 +69,7 @@ IsJudged model bytes (Refused place cause) = IsRefused bytes place (string_bytes
 
 -- the same of a file: of each text with these declarations
 abbrev pub JudgesFile : Model → List Decl → Verdict → Type 0
-JudgesFile model decls verdict = (bytes : List ℕ) → IsDeclared bytes decls → IsJudged model bytes verdict
+JudgesFile model decls verdict = (bytes : List ℕ) → HasDeclarations bytes decls → IsJudged model bytes verdict
 
 -- What is answered of the theory of a text.
 abbrev pub IsTheoryJudged : List ℕ → TheoryVerdict → Type 0
@@ -77,7 +77,7 @@ IsTheoryJudged bytes (theory.Accepted rules) = MeansTheory bytes rules
 IsTheoryJudged bytes (theory.Refused place cause) = HasNoTheory bytes place (string_bytes cause)
 
 abbrev pub JudgesTheory : List Decl → TheoryVerdict → Type 0
-JudgesTheory decls verdict = (bytes : List ℕ) → IsDeclared bytes decls → IsTheoryJudged bytes verdict
+JudgesTheory decls verdict = (bytes : List ℕ) → HasDeclarations bytes decls → IsTheoryJudged bytes verdict
 
 -- What is answered of a problem: that it is equivalent, or the text of its least attack.
 abbrev pub IsAnswered : Problem → Verdict → Type 0

@@ -5,7 +5,7 @@ use Rattle.dps_process.specs.Models.{Model}
 use Rattle.dps_process.specs.Problem.{Problem, IsLawful}
 use Rattle.dps_tree.specs.Plain.{IsPlain}
 use Rattle.dps_syntax.specs.declared.tree.Decl.{Decl}
-use Rattle.dps_meaning.specs.Meaning.{IsDeclared, IsProblemOf, MeansTheory}
+use Rattle.dps_meaning.specs.Meaning.{HasDeclarations, IsProblemOf, MeansTheory}
 use Rattle.dps_judge.specs.Meaning.{MeansJudged, MeansEquivalent}
 use Rattle.dps_judge.specs.Judgement.{HasNoTheory, IsRefused, IsAttacked}
 use Rattle.dps_judge.specs.Unbuilt.{first_unbuilt}
@@ -13,7 +13,7 @@ use Rattle.dps_judge.specs.Unbuilt.{first_unbuilt}
 -- A text that uses nothing that is not judged yet means a problem of outputs on public channels, without a rule.
 abbrev pub BuiltTextsArePlain : Type 0
 BuiltTextsArePlain =
-    (bytes : List ℕ) (decls : List Decl) (problem : Problem) → IsDeclared bytes decls → first_unbuilt decls ≡ None → IsProblemOf decls problem → IsLawful problem → IsPlain problem
+    (bytes : List ℕ) (decls : List Decl) (problem : Problem) → HasDeclarations bytes decls → first_unbuilt decls ≡ None → IsProblemOf decls problem → IsLawful problem → IsPlain problem
 
 -- No text is refused and means a problem that is judged.
 abbrev pub NoTextIsRefusedAndJudged : Type 0

@@ -25,11 +25,11 @@ use Rattle.dps_elab.specs.Meaning.{Expanded, expanded, sides, refused}
 use Rattle.dps_rules.specs.Rules.{theory_of}
 use Rattle.dps_rules.specs.Laws.{FlawedProgramsAreNotAccepted}
 use Rattle.dps_meaning.specs.Causes.{Cause}
-use Rattle.dps_meaning.specs.Meaning.{IsDeclared, AreOfText, Says, MeansTheory, Means}
+use Rattle.dps_meaning.specs.Meaning.{HasDeclarations, AreOfText, Says, MeansTheory, Means}
 use Rattle.dps_meaning.specs.Faults.{IsTheoryFault, misnamed, flawed, IsFaultOf, untheoried, unwritten, HasFault, unread, declared}
 use Rattle.dps_meaning.specs.Laws.{NoTextSaysTwoPrograms, NoTextMeansTwoProblems, NoTextHasFaultAndTheory, NoTextHasFaultAndMeaning}
 
-pub declared_by : (bytes : List ℕ) (file : File) → IsFileOfText bytes file → IsDeclared bytes file.declarations.items
+pub declared_by : (bytes : List ℕ) (file : File) → IsFileOfText bytes file → HasDeclarations bytes file.declarations.items
 declared_by bytes file t = record {
   tree = record { tokens = t.tokens; reading = t.reading; derived = t.file.derived; spelled = t.file.spelled; shallow = t.file.shallow };
   keywords = t.file.keywords;
@@ -77,7 +77,7 @@ one_list (d ∷ ds) (e ∷ es) t h k =
     let rest = one_list ds es r (All-tail HasItsKeyword d ds h) (All-tail HasItsKeyword e es k) in
     λ i. first i ∷ rest i
 
-pub one_text : NoTextHasTwoReadings → NoTokensHaveTwoTrees → (bytes : List ℕ) (ds es : List Decl) → IsDeclared bytes ds → IsDeclared bytes es → ds ≡ es
+pub one_text : NoTextHasTwoReadings → NoTokensHaveTwoTrees → (bytes : List ℕ) (ds es : List Decl) → HasDeclarations bytes ds → HasDeclarations bytes es → ds ≡ es
 one_text readings trees bytes ds es a b =
     let tokens = readings bytes a.tree.tokens b.tree.tokens None None a.tree.reading b.tree.reading in
     one_list ds es (trees (trees_of ds) (trees_of es) a.tree.derived b.tree.derived (a.tree.spelled ∙ (ap (lexemes_at bytes) tokens.0 ∙ sym b.tree.spelled))) a.keywords b.keywords

@@ -17,14 +17,14 @@ use Rattle.dps_elab.specs.Meaning.{Expanded, expanded, sides, refused}
 use Rattle.dps_rules.specs.Rules.{rules_of, theory_of}
 use Rattle.dps_rules.specs.Laws.{FaultyProgramsAreFlawed}
 use Rattle.dps_meaning.specs.Causes.{Cause, reading, names, rules, sides as of_sides}
-use Rattle.dps_meaning.specs.Meaning.{IsDeclared}
+use Rattle.dps_meaning.specs.Meaning.{HasDeclarations}
 use Rattle.dps_meaning.specs.Faults.{IsFaultOf, misnamed, flawed, untheoried, unwritten, HasFault, unread, declared}
 use Rattle.dps_meaning.specs.Laws.{IsMeant, EachTextHasFaultOrMeaning}
 
 abbrev IsDecided : List ℕ → Type 0
 IsDecided bytes = ((place : Place) × ((cause : Cause) × HasFault bytes place cause)) ⊎ ((model : Model) → IsMeant bytes model)
 
-module _ (bytes : List ℕ) (decls : List Decl) (text : IsDeclared bytes decls) where
+module _ (bytes : List ℕ) (decls : List Decl) (text : HasDeclarations bytes decls) where
   faulty_text : (place : Place) (cause : Cause) → IsFaultOf decls place cause → IsDecided bytes
   faulty_text place cause h = inl (place, (cause, declared decls text h))
 

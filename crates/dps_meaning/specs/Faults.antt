@@ -14,7 +14,7 @@ use Rattle.dps_rules.specs.Rules.{Flaw, IsFlawed, theory_of}
 use Rattle.dps_elab.specs.declared.fault.ExpansionCause.{ExpansionCause}
 use Rattle.dps_elab.specs.Meaning.{expanded, refused}
 use Rattle.dps_meaning.specs.Causes.{Cause, reading, names, rules, sides}
-use Rattle.dps_meaning.specs.Meaning.{IsDeclared}
+use Rattle.dps_meaning.specs.Meaning.{HasDeclarations}
 
 -- The first fault of the declarations up to their rules: that of their names; where they have none, that of their rules.
 pub data IsTheoryFault (decls : List Decl) (place : Place) (cause : Cause) : Type 0 where
@@ -31,7 +31,7 @@ pub data IsFaultOf (decls : List Decl) (place : Place) (cause : Cause) : Type 0 
 -- The first fault of a text: that of reading it; where it has none, that of its declarations, of this kind.
 pub data IsFirst (IsOf : List Decl → Place → Cause → Type 0) (bytes : List ℕ) (place : Place) (cause : Cause) : Type 0 where
   unread : (fault : Fault) → IsFirstFault bytes fault → place ≡ record { line = fault.line; column = fault.column } → cause ≡ reading fault.kind → IsFirst IsOf bytes place cause
-  declared : (decls : List Decl) → IsDeclared bytes decls → IsOf decls place cause → IsFirst IsOf bytes place cause
+  declared : (decls : List Decl) → HasDeclarations bytes decls → IsOf decls place cause → IsFirst IsOf bytes place cause
 
 -- the first fault of the text up to its rules
 abbrev pub HasTheoryFault : List ℕ → Place → Cause → Type 0

@@ -8,16 +8,16 @@ use Rattle.dps_syntax.specs.declared.tree.File.{File}
 use Rattle.dps_syntax.specs.Files.{IsFileOfText}
 use Rattle.dps_names.specs.Program.{Program}
 use Rattle.dps_meaning.specs.Causes.{Cause}
-use Rattle.dps_meaning.specs.Meaning.{IsDeclared, Says, MeansTheory, Means}
+use Rattle.dps_meaning.specs.Meaning.{HasDeclarations, Says, MeansTheory, Means}
 use Rattle.dps_meaning.specs.Faults.{HasTheoryFault, HasFault}
 
 -- The file that a text is read as has the declarations of the text.
 abbrev pub ReadFilesAreDeclared : Type 0
-ReadFilesAreDeclared = (bytes : List ℕ) (file : File) → IsFileOfText bytes file → IsDeclared bytes file.declarations.items
+ReadFilesAreDeclared = (bytes : List ℕ) (file : File) → IsFileOfText bytes file → HasDeclarations bytes file.declarations.items
 
 -- A text is at most one file.
 abbrev pub NoTextHasTwoFiles : Type 0
-NoTextHasTwoFiles = (bytes : List ℕ) (decls others : List Decl) → IsDeclared bytes decls → IsDeclared bytes others → decls ≡ others
+NoTextHasTwoFiles = (bytes : List ℕ) (decls others : List Decl) → HasDeclarations bytes decls → HasDeclarations bytes others → decls ≡ others
 
 -- A text says at most one program.
 abbrev pub NoTextSaysTwoPrograms : Type 0

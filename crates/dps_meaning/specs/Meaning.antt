@@ -29,7 +29,7 @@ pub record IsProblemOf (decls : List Decl) (problem : Problem) : Type 0 where
   pub written : expanded program ≡ sides problem.left problem.right
 
 -- The text is a file with these declarations.
-pub record IsDeclared (bytes : List ℕ) (decls : List Decl) : Type 0 where
+pub record HasDeclarations (bytes : List ℕ) (decls : List Decl) : Type 0 where
   pub tree : IsTreeOfText bytes (trees_of decls)
   pub keywords : All HasItsKeyword decls
 
@@ -37,12 +37,12 @@ pub record IsDeclared (bytes : List ℕ) (decls : List Decl) : Type 0 where
 pub record AreOfText (decls : List Decl) : Type 0 where
   pub bytes : List ℕ
   pub short : length bytes ≤ 1048576
-  pub text : IsDeclared bytes decls
+  pub text : HasDeclarations bytes decls
 
 -- The text is a file without a fault of its names, and this is what it says.
 pub record Says (bytes : List ℕ) (program : Program) : Type 0 where
   pub decls : List Decl
-  pub text : IsDeclared bytes decls
+  pub text : HasDeclarations bytes decls
   pub named : IsProgram decls program
 
 -- The text has an accepted theory, and writes so many rules.
@@ -55,5 +55,5 @@ pub record MeansTheory (bytes : List ℕ) (count : ℕ) : Type 0 where
 -- The text means the problem, whatever its model of communication is.
 pub record Means (bytes : List ℕ) (problem : Problem) : Type 0 where
   pub decls : List Decl
-  pub text : IsDeclared bytes decls
+  pub text : HasDeclarations bytes decls
   pub problem_of : IsProblemOf decls problem

@@ -18,9 +18,9 @@ use Rattle.dps_scopes.specs.declared.meaning.Meaning.TheVariants.{Local as a_loc
 use Rattle.dps_scopes.specs.Outcome.{Outcome, done, faulty}
 use Rattle.dps_scopes.specs.Scopes.{most_arguments, is_reserved, begins_as_projection, declared_meaning}
 use Rattle.dps_scopes.specs.Terms.{count_inner}
-use Rattle.dps_scopes.specs.RuleTerms.{InRule, declared_root, rule_terms, root_as}
+use Rattle.dps_scopes.specs.RuleTerms.{InRule, rule_terms}
 use Rattle.dps_names.specs.Program.{Definition, WrittenRule}
-use Rattle.dps_names.specs.Rules.{sides_of, rule}
+use Rattle.dps_names.specs.Rules.{sides_of, rule, declared_root, root_as}
 use Rattle.dps_names.proofs.SignatureGrowth.{Grows, HasTuples, grows_refl, grows_trans, grows_symbol, tuples_symbol, kept_symbol, kept_arity, shape_at}
 use Rattle.dps_names.proofs.OutcomesOver.{Gives}
 use Rattle.dps_names.proofs.Outcomes.{OnDone, on_then, on_if}
@@ -117,7 +117,7 @@ gives_rules many m s (done rs t) h = record { holds = record { grows = h.holds.g
 gives_rules many m s (faulty fault) h = record { holds = tt }
 
 module _ (definitions : List Definition) where
-  root_read : (lexeme : Lexeme) (many : ℕ) (s : Signature) (meaning : Meaning) → HasTuples s → MeansThere s meaning → OnDone (root_as definitions lexeme many s meaning) (IsRoot many s)
+  root_read : (lexeme : Lexeme) (many : ℕ) (s : Signature) (meaning : Meaning) → HasTuples s → MeansThere s meaning → OnDone (root_as lexeme many s meaning) (IsRoot many s)
   root_read lexeme many s (a_function f arity) h there =
       on_if (many == arity && nat_le many most_arguments) _ _ (IsRoot many s)
       (λ e.
@@ -160,7 +160,7 @@ module _ (definitions : List Definition) where
   rule_read m (inner p inside parts) s h few = no_rules (length (lexemes (inner p inside parts))) m s h
   rule_read m (token lexeme parts) s h few =
       let many = count_inner parts - 1 in
-      on_then (root_as definitions lexeme many s (declared_meaning s definitions lexeme.text)) _ (IsRoot many s) (ReadsRules (length (lexemes (token lexeme parts))) m s)
+      on_then (root_as lexeme many s (declared_meaning s definitions lexeme.text)) _ (IsRoot many s) (ReadsRules (length (lexemes (token lexeme parts))) m s)
       (root_read lexeme many s (declared_meaning s definitions lexeme.text) h (declared_there s definitions lexeme.text))
       (λ f after root.
       let state : InRule = record { signature = after; variables = [] } in

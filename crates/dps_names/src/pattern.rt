@@ -72,6 +72,13 @@ impl Pattern {
     }
 }
 
+/// A tuple that a pattern takes apart: its symbol, and the local that it is.
+#[derive(Clone, Copy)]
+struct TupleLocal {
+    symbol: Sym,
+    local: usize,
+}
+
 /// The pattern that stands first in the parts.
 pub(crate) fn pattern_in(
     alloc: Global,
@@ -159,21 +166,13 @@ fn tuple(
         return fault_at(NameCause::LargeArity, leaf);
     }
     let symbol = tuple_symbol(alloc, signature, count as u32)?;
-    let from = so_far.next_local(outside)?;
+    let local = so_far.next_local(outside)?;
     so_far.push_unnamed(alloc)?;
-    members(
-        alloc,
-        definitions,
-        outside,
-        parts,
-        symbol,
-        from,
-        so_far,
-        signature,
-    )
+    let tuple = TupleLocal { symbol, local };
+    members(alloc, definitions, outside, parts, tuple, so_far, signature)
 }
 
-/// The members of the tuple that is the local `from`.
+/// The members of a tuple.
 #[cycle(pattern)]
 #[tactic(auto, using(crate::proofs::Members::for_members))]
 fn members(
@@ -181,21 +180,20 @@ fn members(
     definitions: &Definitions,
     outside: &Scope<'_>,
     parts: &[Part],
-    symbol: Sym,
-    from: usize,
+    tuple: TupleLocal,
     so_far: &mut Pattern,
     signature: &mut SignatureBuilder,
 ) -> Result<(), NameRefusal>
     requires { count_inner (parts_of parts.now) ≤ 8 }
-    ensures { Answers (λ _. so_far.new) signature.new result (members definitions.now (blocks outside.now) (parts_of parts.now) symbol.number from 1 so_far.old signature.old) }
+    ensures { Answers (λ _. so_far.new) signature.new result (members definitions.now (blocks outside.now) (parts_of parts.now) tuple.symbol.number tuple.local 1 so_far.old signature.old) }
 {
     let mut index = 1;
     for part in parts {
         let Part::Inner(tree) = part else {
             continue;
         };
-        let projection = projection_symbol(symbol, index)?;
-        so_far.push_step(Step::Project(projection, from))?;
+        let projection = projection_symbol(tuple.symbol, index)?;
+        so_far.push_step(Step::Project(projection, tuple.local))?;
         let parts = tree.parts.as_slice();
         read_pattern(alloc, definitions, outside, parts, so_far, signature)?;
         index += 1;

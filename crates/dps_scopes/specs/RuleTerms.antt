@@ -3,18 +3,16 @@ use Rattle.std.specs.Prelude.{ℕ, zero, suc, Bool, true, false, ◌&&◌, ◌==
 use Rattle.std.specs.Str.{bytes_eq}
 use Rattle.dps_lex.specs.declared.vocabulary.TokenKind.TheVariants as kinds
 use Rattle.dps_terms.specs.declared.PublicName.TheVariants.{Declared}
-use Rattle.dps_signature.specs.declared.SymKind.TheVariants.{Destructor}
 use Rattle.dps_terms.specs.declared.Sym.{Sym}
 use Rattle.dps_terms.specs.Tree.{public, var, Tree, leaf, app, trees}
 use Rattle.dps_signature.specs.Signature.{Signature}
-use Rattle.dps_signature.specs.Names.{with_symbol}
 use Rattle.dps_syntax.specs.Tree.{Lexeme, Parts, none, token, inner}
-use Rattle.dps_scopes.specs.declared.fault.NameCause.TheVariants.{UnknownName, WrongArity, WrongKind, LargeArity, ReservedName, PrivateInRule}
+use Rattle.dps_scopes.specs.declared.fault.NameCause.TheVariants.{UnknownName, WrongArity, WrongKind, LargeArity, PrivateInRule}
 use Rattle.dps_scopes.specs.Definition.{Definition}
 use Rattle.dps_scopes.specs.declared.meaning.Meaning.{Meaning}
 use Rattle.dps_scopes.specs.declared.meaning.Meaning.TheVariants.{Local as a_local, Name as a_name, Function as a_function, Process as a_process, Projection as a_projection, Unknown as unknown}
 use Rattle.dps_scopes.specs.Outcome.{Outcome, done, and_then, fault_at}
-use Rattle.dps_scopes.specs.Scopes.{most_arguments, is_reserved, with_tuple, declared_meaning}
+use Rattle.dps_scopes.specs.Scopes.{most_arguments, with_tuple, declared_meaning}
 use Rattle.dps_scopes.specs.Terms.{is_kind, count_inner}
 
 -- what is known inside a rule: the signature, and the rule's variables so far, by first occurrence
@@ -77,15 +75,6 @@ has_more none = false
 has_more (token lexeme parts) = true
 has_more (inner p inside parts) = true
 
--- The function at the root of a left side, over so many arguments. Where it is not declared, it is declared here, as
--- a destructor.
-abbrev pub declared_root : Lexeme → ℕ → Signature → Outcome Signature Sym
-declared_root lexeme count signature =
-    if is_reserved lexeme.text then fault_at ReservedName lexeme
-    else (if nat_le count most_arguments
-    then done (record { number = length signature.symbols }) (with_symbol signature (record { name = lexeme.text; kind = Destructor; arity = count }))
-    else fault_at LargeArity lexeme)
-
 module _ (definitions : List Definition) where
   abbrev mutual
     pub rule_term : Parts → InRule → Outcome InRule Tree
@@ -101,11 +90,3 @@ module _ (definitions : List Definition) where
     rule_terms (token lexeme parts) state = rule_terms parts state
     rule_terms (inner p inside parts) state =
         and_then (rule_term inside state) (λ t after. and_then (rule_terms parts after) (λ ts last. done (t ∷ ts) last))
-
-  abbrev pub root_as : Lexeme → ℕ → Signature → Meaning → Outcome Signature Sym
-  root_as lexeme count signature (a_function f arity) = if count == arity && nat_le count most_arguments then done f signature else fault_at WrongArity lexeme
-  root_as lexeme count signature (a_name n is_private) = fault_at WrongArity lexeme
-  root_as lexeme count signature (a_process n parameters) = fault_at WrongKind lexeme
-  root_as lexeme count signature (a_local n) = declared_root lexeme count signature
-  root_as lexeme count signature (a_projection projection) = declared_root lexeme count signature
-  root_as lexeme count signature unknown = declared_root lexeme count signature

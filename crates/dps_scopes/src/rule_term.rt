@@ -4,22 +4,20 @@ ghost use Rattle.dps_terms.specs.Tree.{leaf, var};
 ghost use Rattle.dps_syntax.specs.Parts.{parts_of};
 ghost use Rattle.dps_scopes.specs.Outcome.{Answers};
 ghost use Rattle.dps_scopes.specs.Terms.{count_inner};
-ghost use Rattle.dps_signature.specs.Names.{IsDeclaredText};
-ghost use Rattle.dps_scopes.specs.Scopes.{begins_as_projection, declared_meaning};
-ghost use Rattle.dps_scopes.specs.RuleTerms.{variable_number, with_variable, identifier_in_rule, first_tree, tuple_in_rule, has_more, rule_term, rule_terms, declared_root, root_as};
+ghost use Rattle.dps_scopes.specs.Scopes.{declared_meaning};
+ghost use Rattle.dps_scopes.specs.RuleTerms.{variable_number, with_variable, identifier_in_rule, first_tree, tuple_in_rule, has_more, rule_term, rule_terms};
 
 use crate::definitions::Definitions;
 use crate::fault::fault_at;
-use crate::meaning::{Meaning, declared_meaning, is_reserved};
+use crate::meaning::{Meaning, declared_meaning};
 use crate::parts::{count_inner, has_more, is_kind};
-use crate::signature::{SignatureBuilder, add_symbol, tuple_symbol};
+use crate::signature::{SignatureBuilder, tuple_symbol};
 use crate::term::MOST_ARGUMENTS;
 use crate::texts::Texts;
 use crate::{NameCause, NameRefusal};
 use dps_lex::TokenKind;
-use dps_signature::SymKind;
 use dps_syntax::{Leaf, Part};
-use dps_terms::{NoMemory, PublicName, Sym, Term};
+use dps_terms::{NoMemory, PublicName, Term};
 use std::alloc::{AllocError, Global};
 
 /// A variable, by its number. A new one gets the next number.
@@ -50,13 +48,10 @@ fn rule_term(
 {
     match parts {
         [] => Ok(Term::var(alloc, 0)?),
-        [Part::Inner(tree), ..] => rule_term(
-            alloc,
-            definitions,
-            tree.parts.as_slice(),
-            signature,
-            variables,
-        ),
+        [Part::Inner(tree), ..] => {
+            let inside = tree.parts.as_slice();
+            rule_term(alloc, definitions, inside, signature, variables)
+        }
         [Part::Token(leaf), rest @ ..] => {
             if is_kind(leaf, TokenKind::Identifier) {
                 identified(alloc, definitions, leaf, rest, signature, variables)
@@ -166,52 +161,4 @@ pub fn rule_terms(
         found.push(term)?;
     }
     Ok(found)
-}
-
-/// The function at the root of a left side, over so many arguments. Where it is not declared, it is declared here, as
-/// a destructor. The error is its fault, or out of memory.
-pub fn root(
-    definitions: &Definitions,
-    leaf: &Leaf,
-    count: usize,
-    signature: &mut SignatureBuilder,
-) -> Result<Sym, NameRefusal>
-    ensures few { IfOk result (λ _. count ≤ 8) }
-    ensures found { Answers (λ f. f) signature.new result (root_as definitions.now leaf.now count signature.old (declared_meaning signature.old definitions.now leaf.now.text)) }
-{
-    match declared_meaning(definitions, &*signature, leaf.text.as_str()) {
-        Meaning::Function(sym, arity) => {
-            if count == arity as usize && count <= MOST_ARGUMENTS {
-                Ok(sym)
-            } else {
-                fault_at(NameCause::WrongArity, leaf)
-            }
-        }
-        Meaning::Name(_, _) => fault_at(NameCause::WrongArity, leaf),
-        Meaning::Process(_, _) => fault_at(NameCause::WrongKind, leaf),
-        Meaning::Local(_) | Meaning::Projection(_) | Meaning::Unknown => {
-            declared_root(leaf, count, signature)
-        }
-    }
-}
-
-/// A root that its rule declares.
-#[tactic(auto, using(crate::proofs::Identifiers::for_identifiers))]
-fn declared_root(
-    leaf: &Leaf,
-    count: usize,
-    signature: &mut SignatureBuilder,
-) -> Result<Sym, NameRefusal>
-    requires { begins_as_projection leaf.now.text ≡ false → ¬ IsDeclaredText signature.old leaf.now.text }
-    ensures few { IfOk result (λ _. count ≤ 8) }
-    ensures found { Answers (λ f. f) signature.new result (declared_root leaf.now count signature.old) }
-{
-    let text = leaf.text.as_str();
-    if is_reserved(text) {
-        return fault_at(NameCause::ReservedName, leaf);
-    }
-    if MOST_ARGUMENTS < count {
-        return fault_at(NameCause::LargeArity, leaf);
-    }
-    add_symbol(signature, text, SymKind::Destructor, count as u32)
 }

@@ -55,8 +55,5 @@ impl<'a> Scope<'a> {
 pub fn sum(first: usize, second: usize) -> Result<usize, NoMemory>
     ensures { IfOk result (λ n. n ≡ first + second) }
 {
-    match first.checked_add(second) {
-        Some(sum) => Ok(sum),
-        None => Err(AllocError),
-    }
+    first.checked_add(second).ok_or(AllocError)
 }

@@ -178,12 +178,8 @@ fn push_tuple(alloc: Global, signature: &mut Signature, members: u32) -> Result<
     ensures ok { OnOk result (signature.new ≡ (tuple_at signature.old members None).signature) }
     ensures grown { OnErr result (HasSymbolsOf signature.old signature.new) }
 {
-    let sym = push_symbol(
-        signature,
-        tuple_text(members),
-        SymKind::Constructor,
-        members,
-    )?;
+    let text = tuple_text(members);
+    let sym = push_symbol(signature, text, SymKind::Constructor, members)?;
     push_projections(alloc, signature, members)?;
     Ok(sym)
 }
@@ -233,8 +229,6 @@ fn push_symbol(
 pub fn projection_symbol(tuple: Sym, index: u32) -> Result<Sym, NoMemory>
     ensures { IfOk result (λ s. s ≡ record { number = tuple.number + index }) }
 {
-    match tuple.number.checked_add(index) {
-        Some(number) => Ok(Sym { number }),
-        None => Err(AllocError),
-    }
+    let number = tuple.number.checked_add(index).ok_or(AllocError)?;
+    Ok(Sym { number })
 }

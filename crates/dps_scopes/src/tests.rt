@@ -1,7 +1,7 @@
 //! What identifiers, terms and rules say, in tables of numbers: each call once with ample memory.
 use crate::definitions::Definitions;
 use crate::meaning::is_reserved;
-use crate::rule_term::{root, rule_terms};
+use crate::rule_term::rule_terms;
 use crate::scope::Scope;
 use crate::signature::{SignatureBuilder, add_name, add_symbol, tuple_symbol};
 use crate::term::{term, terms};
@@ -113,9 +113,8 @@ enum Ask {
     Term,
     /// How many terms stand in a row: 5 and their number.
     Row,
-    /// The symbol of the left root with this name over the terms of the row, in a rule: 6, the symbol's number and the
-    /// number of variables.
-    Root(&'static str),
+    /// How many terms stand in a row of a rule: 6, their number and the number of variables.
+    RuleRow,
 }
 
 fn asked(rt: &impl Abort, alloc: Global, ask: Ask, texts: &[&str]) -> (u32, u64, usize) {
@@ -170,44 +169,13 @@ fn ask_parts(
                 Err(_) => (9, 4, 0),
             }
         }
-        (Ask::Root(name), Ok(mut variables)) => {
-            ask_rule(alloc, name, parts, signature, definitions, &mut variables)
+        (Ask::RuleRow, Ok(mut variables)) => {
+            match rule_terms(alloc, definitions, parts, signature, &mut variables) {
+                Ok(found) => (6, found.len() as u64, variables.count()),
+                Err(_) => (9, 6, 0),
+            }
         }
         _ => (9, 5, 0),
-    }
-}
-
-fn ask_rule(
-    alloc: Global,
-    name: &str,
-    parts: &[Part],
-    signature: &mut SignatureBuilder,
-    definitions: &Definitions,
-    variables: &mut Texts,
-) -> (u32, u64, usize) {
-    let Ok(count) = counted(alloc, parts, signature, definitions, variables) else {
-        return (9, 6, 0);
-    };
-    let Ok(leaf) = identifier(alloc, name) else {
-        return (9, 7, 0);
-    };
-    match root(definitions, &leaf, count, signature) {
-        Ok(sym) => (6, sym.number as u64, variables.count()),
-        Err(_) => (9, 8, 0),
-    }
-}
-
-/// How many terms of a rule stand in a row.
-fn counted(
-    alloc: Global,
-    parts: &[Part],
-    signature: &mut SignatureBuilder,
-    definitions: &Definitions,
-    variables: &mut Texts,
-) -> Result<usize, NameRefusal> {
-    match rule_terms(alloc, definitions, parts, signature, variables) {
-        Ok(found) => Ok(found.len()),
-        Err(refusal) => Err(refusal),
     }
 }
 
@@ -223,9 +191,9 @@ fn terms_say(rt: HostRuntime) {
         (Ask::Term, &["f", "a"], (4, 2, 0)),
         (Ask::Term, &["P"], (4, 3, 0)),
         (Ask::Row, &["f", "a", "x"], (5, 2, 0)),
-        (Ask::Root("f"), &["f", "x", "z"], (6, 0, 3)),
-        (Ask::Root("g"), &["f", "x", "x"], (6, 1, 2)),
-        (Ask::Root("g"), &["f", "a"], (6, 1, 2)),
+        (Ask::RuleRow, &["f", "x", "z"], (6, 2, 3)),
+        (Ask::RuleRow, &["f", "x", "x"], (6, 2, 2)),
+        (Ask::RuleRow, &["f", "a"], (6, 1, 2)),
     ];
     for (ask, texts, want) in table {
         assert_eq!(rt; asked(&rt, rt.alloc(), ask, texts), want);

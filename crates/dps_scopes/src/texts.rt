@@ -48,10 +48,7 @@ impl Texts {
     pub fn find(&self, text: &str) -> Option<usize>
         ensures { result ≡ position (bytes_eq text.now) self.now }
     {
-        match self.places.get(text) {
-            Some(place) => Some(*place),
-            None => None,
-        }
+        self.places.get(text).copied()
     }
 
     /// How many there are.

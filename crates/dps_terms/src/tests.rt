@@ -212,6 +212,6 @@ fn listed(alloc: Global) -> Result<Vec<usize>, NoMemory> {
 #[test]
 fn lists(rt: HostRuntime) -> Result<(), Fail> {
     let counts = listed(rt.alloc())?;
-    assert!(&rt; counts.as_slice() == [5, 1, 5]);
+    assert!(&rt; counts.as_slice() == [5, 1, 5].as_slice());
     Ok(())
 }

@@ -21,5 +21,5 @@ decreases-put_arguments-loop-left l = l.left
 abbrev pub invariant-put_arguments-loop-left : goal.invariant-put_arguments-loop-left
 invariant-put_arguments-loop-left l = record {
   within : l.left ≤ length (arguments (seen l.term));
-  put : ArePut l.fn.room l.room l.depth (map (tree_in (in_frame (values l.stack) l.frame)) (drop l.left (arguments (seen l.term)))) l.fn.built l.built;
+  put : ArePut l.fn.nodes_left l.nodes_left l.depth (map (tree_in (in_frame (values l.stack) l.frame)) (drop l.left (arguments (seen l.term)))) l.fn.built l.built;
 }

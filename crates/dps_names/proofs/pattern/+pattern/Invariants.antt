@@ -16,4 +16,4 @@ decreases-members l = 2 * count (parts_of l.parts.now)
 
 abbrev pub invariant-members-loop-part : goal.invariant-members-loop-part
 invariant-members-loop-part l =
-    Takes l.definitions (blocks l.outside) l.symbol.number l.from (parts_of l.parts) l.initial.so_far l.initial.signature (parts_of (drop l.part-index l.parts)) l.index l.so_far l.signature
+    Takes l.definitions (blocks l.outside) l.tuple.symbol.number l.tuple.local (parts_of l.parts) l.initial.so_far l.initial.signature (parts_of (drop l.part-index l.parts)) l.index l.so_far l.signature

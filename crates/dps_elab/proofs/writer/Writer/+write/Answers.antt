@@ -181,7 +181,7 @@ pub pair-returns-in_err-below-clause-large : goal.pair-returns-in_err-below-clau
 pair-returns-in_err-below-clause-large t c =
     λ e.
     let k : c.take_node.result ≡ Err TooLarge = search rules in
-    none_left c.args.self.now.room c.args.depth (written_in c.args.scope c.args.self.now.stack.items (chain_of c.args.join (bodies c.args.parts.now)) (numbers_of c.args.self.now)).process
+    none_left c.args.self.now.nodes_left c.args.depth (written_in c.args.scope c.args.self.now.stack.items (chain_of c.args.join (bodies c.args.parts.now)) (numbers_of c.args.self.now)).process
     (c.take_node.ensures.large k)
 
 pub pair-returns-in_err-first-clause-large : goal.pair-returns-in_err-first-clause-large
@@ -221,19 +221,19 @@ one_and_copies-returns-clause-ok t c =
 pub node-returns-in-Output-clause-large : goal.node-returns-in-Output-clause-large
 node-returns-in-Output-clause-large t c =
     λ e.
-    let P : BodyView → Type 0 = λ v. IsTooLargeSide c.args.self.now.room c.args.depth (written_in c.args.scope c.args.self.now.stack.items (shown v) (numbers_of c.args.self.now)).process in
+    let P : BodyView → Type 0 = λ v. IsTooLargeSide c.args.self.now.nodes_left c.args.depth (written_in c.args.scope c.args.self.now.stack.items (shown v) (numbers_of c.args.self.now)).process in
     subst P (sym c.in-Output.is) (c.output.ensures.large e)
 
 pub node-returns-in-Conditional-clause-large : goal.node-returns-in-Conditional-clause-large
 node-returns-in-Conditional-clause-large t c =
     λ e.
-    let P : BodyView → Type 0 = λ v. IsTooLargeSide c.args.self.now.room c.args.depth (written_in c.args.scope c.args.self.now.stack.items (shown v) (numbers_of c.args.self.now)).process in
+    let P : BodyView → Type 0 = λ v. IsTooLargeSide c.args.self.now.nodes_left c.args.depth (written_in c.args.scope c.args.self.now.stack.items (shown v) (numbers_of c.args.self.now)).process in
     subst P (sym c.in-Conditional.is) (c.conditional.ensures.large e)
 
 pub step-returns-in-Test-clause-large : goal.step-returns-in-Test-clause-large
 step-returns-in-Test-clause-large t c =
     λ e.
-    let P : Step → Type 0 = λ x. IsTooLargeSide c.args.self.now.room c.args.depth
+    let P : Step → Type 0 = λ x. IsTooLargeSide c.args.self.now.nodes_left c.args.depth
     (taken_apart_in c.args.scope c.args.self.now.stack.items (x ∷ c.args.rest.steps.now) c.args.rest.then.now (other_body (option_copied c.args.rest.otherwise))
     (take c.args.rest.outside c.args.self.now.stack.items) (numbers_of c.args.self.now)).process in
     subst P (sym c.in-Test.is) (c.test.ensures.large e)

@@ -3,7 +3,7 @@ use Rattle.std.proofs.lemmas.List.{append-nil}
 use Rattle.dps_terms.specs.Tree.{app, trees}
 use Rattle.dps_elab.specs.Expansion.{Value, value_at}
 use Rattle.dps_elab.specs.Locals.{locals_from}
-use Rattle.dps_elab.specs.Writing.{IsBuilt, IsTooLargeTerm}
+use Rattle.dps_elab.specs.Writing.{IsBuiltWithin, IsTooLargeTerm}
 use Rattle.dps_elab.specs.declared.stop.Stop.TheVariants.{TooLarge}
 use Rattle.dps_elab.proofs.Turns.{on_top}
 use Rattle.dps_elab.proofs.writer.Writer.projection.Goals as goal
@@ -11,7 +11,7 @@ use Rattle.dps_elab.proofs.writer.Writer.projection.Goals as goal
 pub returns-clause-ok : goal.returns-clause-ok
 returns-clause-ok c =
     let top = on_top c.as_slice-stack.result.now c.args.self.now.stack.items c.args.scope.first c.len.result c.as_slice-stack.ensures.value (search rules) in
-    let P : List Value → Type 0 = λ ls. IsBuilt c.args.self.now.room c.build_projection.new.room c.args.depth (app c.args.projection (trees ((value_at ls c.args.number).tree ∷ [])))
+    let P : List Value → Type 0 = λ ls. IsBuiltWithin c.args.self.now.nodes_left c.build_projection.new.nodes_left c.args.depth (app c.args.projection (trees ((value_at ls c.args.number).tree ∷ [])))
     c.in_ok-built.built in
     let h : P (locals_from c.args.scope.first c.args.self.now.stack.items) = subst P top c.in_ok-built.ensures.ok in
     record {
@@ -26,5 +26,5 @@ returns-in_err-built-clause-large c =
     λ e.
     let top = on_top c.as_slice-stack.result.now c.args.self.now.stack.items c.args.scope.first c.len.result c.as_slice-stack.ensures.value (search rules) in
     let k : c.build_projection.result ≡ Err TooLarge = search rules in
-    let P : List Value → Type 0 = λ ls. IsTooLargeTerm c.args.self.now.room c.args.depth (app c.args.projection (trees ((value_at ls c.args.number).tree ∷ []))) in
+    let P : List Value → Type 0 = λ ls. IsTooLargeTerm c.args.self.now.nodes_left c.args.depth (app c.args.projection (trees ((value_at ls c.args.number).tree ∷ []))) in
     subst P top (c.build_projection.ensures.large k)

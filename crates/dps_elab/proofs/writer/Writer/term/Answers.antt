@@ -3,7 +3,7 @@ use Rattle.std.proofs.lemmas.List.{append-nil}
 use Rattle.dps_terms.specs.Seen.{seen}
 use Rattle.dps_elab.specs.Expansion.{Value, tree_in, privates_of}
 use Rattle.dps_elab.specs.Locals.{locals_from}
-use Rattle.dps_elab.specs.Writing.{IsBuilt}
+use Rattle.dps_elab.specs.Writing.{IsBuiltWithin}
 use Rattle.dps_elab.specs.declared.stop.Stop.TheVariants.{TooLarge}
 use Rattle.dps_elab.proofs.Turns.{on_top}
 use Rattle.dps_elab.proofs.writer.Writer.term.Goals as goal
@@ -14,7 +14,7 @@ returns-clause-ok c =
     let locals : List Value = locals_from c.args.scope.first c.args.self.now.stack.items in
     let top = on_top c.as_slice.result.now c.args.self.now.stack.items c.args.scope.first c.len.result c.as_slice.ensures.value (search rules) in
     let tree : seen c.whole-tree.result ≡ c.args.written.now.tree = search rules in
-    let h : IsBuilt c.args.self.now.room c.build.new.room c.args.depth (tree_in locals c.args.written.now.tree) c.in_ok-term.term =
+    let h : IsBuiltWithin c.args.self.now.nodes_left c.build.new.nodes_left c.args.depth (tree_in locals c.args.written.now.tree) c.in_ok-term.term =
     rw (← top, ← tree) c.in_ok-term.ensures.ok in
     let top2 = on_top c.as_slice-2.result.now c.args.self.now.stack.items c.args.scope.first c.len.result c.as_slice-2.ensures.value (search rules) in
     let uses : c.as_slice-uses.result.now ≡ c.args.written.now.uses = search rules in
