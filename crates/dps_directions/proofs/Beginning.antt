@@ -48,25 +48,25 @@ mutual
   in_all_occurrences n (more t ts) (in_first k) = in_left n (occurrences t) (all_occurrences ts) (in_occurrences n t k)
   in_all_occurrences n (more t ts) (in_rest k) = in_right n (occurrences t) (all_occurrences ts) (in_all_occurrences n ts k)
 
-pub in_flat : {X : Type 0} (f : X → List ℕ) (xs : List X) (x : X) (n : ℕ) → Contains xs x → Contains (f x) n → Contains (flat_map f xs) n
+pub in_flat : {X Y : Type 0} (f : X → List Y) (xs : List X) (x : X) (n : Y) → Contains xs x → Contains (f x) n → Contains (flat_map f xs) n
 in_flat f [] x n c h = absurd (in_none x c)
 in_flat f (y ∷ xs) x n c h = elim (in_cons x y xs c) [
   | inl e ↦ in_left n (f y) (flat_map f xs) (subst (λ z. Contains (f z) n) e h)
   | inr k ↦ in_right n (f y) (flat_map f xs) (in_flat f xs x n k h)
 ]
 
-level_number : (ps : List (ℕ × ℕ)) (x l : ℕ) → level_of ps x ≡ Some l → Contains (map (λ (p : ℕ × ℕ). p.0) ps) x
+pub level_number : (ps : List (ℕ × ℕ)) (x l : ℕ) → level_of ps x ≡ Some l → Contains (map (λ (p : ℕ × ℕ). p.0) ps) x
 level_number [] x l e = cc
 level_number (p ∷ ps) x l e = elim (same_number p.0 x) [
   | inl d ↦ subst (λ n. Contains (map (λ (q : ℕ × ℕ). q.0) (p ∷ ps)) n) d (in_head p.0 (map (λ (q : ℕ × ℕ). q.0) ps))
   | inr d ↦ in_tail x p.0 (map (λ (q : ℕ × ℕ). q.0) ps) (level_number ps x l (sym (level_past p x ps d) ∙ e))
 ]
 
-levels_cases : (o : Option ℕ) → (o ≡ None) ⊎ ((l : ℕ) × (o ≡ Some l))
+pub levels_cases : (o : Option ℕ) → (o ≡ None) ⊎ ((l : ℕ) × (o ≡ Some l))
 levels_cases None = inl refl
 levels_cases (Some l) = inr (l, refl)
 
-some_level : (o : Option ℕ) → IsSome o → (l : ℕ) × (o ≡ Some l)
+pub some_level : (o : Option ℕ) → IsSome o → (l : ℕ) × (o ≡ Some l)
 some_level None h = cc
 some_level (Some l) h = (l, refl)
 
@@ -102,7 +102,7 @@ module _ (names : ℕ → Type 0) (scene : Scene) (ask : Ask) (valid : IsValid n
   abbrev value_numbers : List ℕ
   value_numbers = flat_map occurrences scene.values
 
-  level_in : (x l : ℕ) → level_of scene.system.levels x ≡ Some l → Contains (system_numbers scene.system) x
+  pub level_in : (x l : ℕ) → level_of scene.system.levels x ≡ Some l → Contains (system_numbers scene.system) x
   level_in x l e = in_left x (map (λ (p : ℕ × ℕ). p.0) scene.system.levels) other_numbers (level_number scene.system.levels x l e)
 
   level_low : (x l : ℕ) → level_of scene.system.levels x ≡ Some l → x < first_new scene ask
@@ -130,7 +130,7 @@ module _ (names : ℕ → Type 0) (scene : Scene) (ask : Ask) (valid : IsValid n
   pair_low : (n : ℕ) (p : Tree × Tree) → Contains ask.equations p → Contains (pair_numbers p) n → n < first_new scene ask
   pair_low n p c h = ask_low n (in_left n (flat_map pair_numbers ask.equations) (flat_map target_numbers ask.targets) (in_flat pair_numbers ask.equations p n c h))
 
-  name_no_level : (z : Target) → Contains ask.targets z → (l : ℕ) → ¬ (level_of scene.system.levels z.name ≡ Some l)
+  pub name_no_level : (z : Target) → Contains ask.targets z → (l : ℕ) → ¬ (level_of scene.system.levels z.name ≡ Some l)
   name_no_level z c l e =
       let low : z.name < z.name = all_in (λ x. x < z.name) (system_numbers scene.system) z.name (fits.above z c) (level_in z.name l e) in
       omega (arith, low)
@@ -236,7 +236,7 @@ module _ (names : ℕ → Type 0) (scene : Scene) (ask : Ask) (valid : IsValid n
       others y l (inl q) never = sym q.3 ∙ level_m q.0 q.1
       others y l (inr f) never = absurd (never (y, l, f.0, itself))
 
-  inside : (n : ℕ) → IsVariableOf ask.equations n → (t : Tree) × IsTermOf scene ask start t × StandsIn (var n) (substitute identity t)
+  pub inside : (n : ℕ) → IsVariableOf ask.equations n → (t : Tree) × IsTermOf scene ask start t × StandsIn (var n) (substitute identity t)
   inside n (k, p, l, e, h) =
       let c : Contains ask.equations p = (k, l, e) in
       elim h [

@@ -56,19 +56,19 @@ use Rattle.dps_directions.proofs.Following.{same_number, in_bindings_or_not, sta
 use Rattle.dps_directions.proofs.Lowering.{with_one, with_here, with_else, not_under, same_var, le_or_gt}
 
 -- the targets of arguments, from a number on, and what their names mean
-abbrev kids : Target → ℕ → List Tree → List Target
+abbrev pub kids : Target → ℕ → List Tree → List Target
 kids z n ts = argument_targets z (range_with_len n (length ts)) ts
 
-abbrev given : ℕ → List Tree → (ℕ → Tree) → ℕ → Tree
+abbrev pub given : ℕ → List Tree → (ℕ → Tree) → ℕ → Tree
 given n [] f = f
 given n (t ∷ ts) f = with_one n t (given (n + 1) ts f)
 
-record IsKid (z : Target) (n : ℕ) (ts : List Tree) (f : ℕ → Tree) (y : Target) : Type 0 where
-  from : n ≤ y.name
-  until : y.name < n + length ts
-  level : y.level ≡ z.level
-  means : given n ts f y.name ≡ y.term
-  among : Contains ts y.term
+pub record IsKid (z : Target) (n : ℕ) (ts : List Tree) (f : ℕ → Tree) (y : Target) : Type 0 where
+  pub from : n ≤ y.name
+  pub until : y.name < n + length ts
+  pub level : y.level ≡ z.level
+  pub means : given n ts f y.name ≡ y.term
+  pub among : Contains ts y.term
 
 kid_first : (z : Target) (n : ℕ) (t : Tree) (ts : List Tree) (f : ℕ → Tree) (y : Target) → y ≡ record { name = n; level = z.level; term = t } → IsKid z n (t ∷ ts) f y
 kid_first z n t ts f y e =
@@ -84,14 +84,14 @@ kid_later z n t ts f y k = record {
   among = in_tail y.term t ts k.among;
 }
 
-is_kid : (z : Target) (n : ℕ) (ts : List Tree) (f : ℕ → Tree) (y : Target) → Contains (kids z n ts) y → IsKid z n ts f y
+pub is_kid : (z : Target) (n : ℕ) (ts : List Tree) (f : ℕ → Tree) (y : Target) → Contains (kids z n ts) y → IsKid z n ts f y
 is_kid z n [] f y c = absurd (in_none y c)
 is_kid z n (t ∷ ts) f y c = elim (in_cons y (record { name = n; level = z.level; term = t }) (kids z (n + 1) ts) c) [
   | inl e ↦ kid_first z n t ts f y e
   | inr k ↦ kid_later z n t ts f y (is_kid z (n + 1) ts f y k)
 ]
 
-given_before : (n : ℕ) (ts : List Tree) (f : ℕ → Tree) (y : ℕ) → y < n → given n ts f y ≡ f y
+pub given_before : (n : ℕ) (ts : List Tree) (f : ℕ → Tree) (y : ℕ) → y < n → given n ts f y ≡ f y
 given_before n [] f y h = refl
 given_before n (t ∷ ts) f y h = with_else n t (given (n + 1) ts f) y (λ e. omega (arith, e, h)) ∙ given_before (n + 1) ts f y (omega (arith, h))
 
@@ -112,15 +112,15 @@ distinct_kids z n (t ∷ ts) rest low h =
     ]
 
 -- the trees that are composed
-abbrev names_as_trees : ℕ → ℕ → Trees
+abbrev pub names_as_trees : ℕ → ℕ → Trees
 names_as_trees n k = trees (map (λ i. leaf (var i)) (range_with_len n k))
 
-names_mean : (scene : Scene) (n : ℕ) (ts : Trees) (f g : ℕ → Tree) → ((y : ℕ) → n ≤ y → y < n + length (list_of ts) → g y ≡ given n (list_of ts) f y)
-    → replace_all (meaning scene g) (names_as_trees n (length (list_of ts))) ≡ ts
-names_mean scene n none f g h = refl
-names_mean scene n (more t ts) f g h =
-    let first : g n ≡ t = h n (omega arith) (omega arith) ∙ with_here n t (given (n + 1) (list_of ts) f) n refl in
-    let rest = names_mean scene (n + 1) ts f g (λ y l m. h y (omega (arith, l)) (omega (arith, m)) ∙ with_else n t (given (n + 1) (list_of ts) f) y (λ e. omega (arith, e, l))) in
+pub names_mean : (m : Leaf → Tree) (n : ℕ) (ts : Trees) (f : ℕ → Tree) → ((y : ℕ) → n ≤ y → y < n + length (list_of ts) → m (var y) ≡ given n (list_of ts) f y)
+    → replace_all m (names_as_trees n (length (list_of ts))) ≡ ts
+names_mean m n none f h = refl
+names_mean m n (more t ts) f h =
+    let first : m (var n) ≡ t = h n (omega arith) (omega arith) ∙ with_here n t (given (n + 1) (list_of ts) f) n refl in
+    let rest = names_mean m (n + 1) ts f (λ y l k. h y (omega (arith, l)) (omega (arith, k)) ∙ with_else n t (given (n + 1) (list_of ts) f) y (λ e. omega (arith, e, l))) in
     λ i. more (first i) (rest i)
 
 names_built : (L : Leaf → Type 0) (n k : ℕ) → ((y : ℕ) → n ≤ y → y < n + k → L (var y)) → AreBuiltOf L AnySymbol (names_as_trees n k)
@@ -161,12 +161,12 @@ in_argument x (more t ts) u c h = elim (in_cons u t (list_of ts) c) [
   | inr k ↦ in_rest (in_argument x ts u k h)
 ]
 
-stands_in_whole : (x : Leaf) (t u : Tree) → Contains (arguments t) u → StandsIn x u → StandsIn x t
+pub stands_in_whole : (x : Leaf) (t u : Tree) → Contains (arguments t) u → StandsIn x u → StandsIn x t
 stands_in_whole x (leaf y) u c h = absurd (in_none u c)
 stands_in_whole x (app f ts) u c h = below (in_argument x ts u c h)
 
 -- the root is one that is composed
-abbrev IsComposable : ℕ → ℕ → Tree → Type 0
+abbrev pub IsComposable : ℕ → ℕ → Tree → Type 0
 IsComposable m l (leaf (public n)) = ⊤
 IsComposable m l (leaf (rigid k)) = m ≤ l
 IsComposable m l (leaf (private n)) = ⊥
@@ -263,12 +263,12 @@ module _ (scene : Scene) (ask : Ask) (b : Branch) (z : Target) (rest : List Targ
   means_at (leaf (var n)) r = absurd r
   means_at (leaf (ax n)) r = absurd r
   means_at (leaf (entry n)) r = absurd r
-  means_at (app f ts) r = ap (app f) (names_mean scene b.next ts kept.means (given b.next (list_of ts) kept.means) (λ y l m. refl))
+  means_at (app f ts) r = ap (app f) (names_mean (meaning scene (given b.next (list_of ts) kept.means)) b.next ts kept.means (λ y l m. refl))
 
   idempotent_at : (u : Tree) → substitute b.theta (substitute b.theta u) ≡ substitute b.theta u
   idempotent_at u = substitute_in_turn b.theta b.theta u ∙ substitute_agrees (λ x. substitute b.theta (b.theta x)) b.theta u (λ x k. kept.idempotent x)
 
-  put_z : IsBuilt scene next after z.level tree z.term
+  pub put_z : IsBuilt scene next after z.level tree z.term
   put_z = record { leaves = leaves_at t root refl; means_it = ap (substitute b.theta) (means_at t root) ∙ idempotent_at z.term }
 
   after_low : (y : ℕ) → y < b.next → after y ≡ kept.means y

@@ -27,7 +27,7 @@ pub same_number : (x y : ℕ) → (x ≡ y) ⊎ (x ≢ y)
 same_number x y = elim (cases_Bool (nat_eq x y)) [ inl e ↦ inl (eqb-true x y e) | inr e ↦ inr (λ d. let k = eq-eqb x y d in cc) ]
 
 -- whether a variable stands in a tree
-app_cases : (u : Tree) (f : Sym) (ts : Trees) → IsSubterm u (app f ts) → (u ≡ app f ts) ⊎ IsAmong u ts
+pub app_cases : (u : Tree) (f : Sym) (ts : Trees) → IsSubterm u (app f ts) → (u ≡ app f ts) ⊎ IsAmong u ts
 app_cases u f ts itself = inl refl
 app_cases u f ts (below k) = inr k
 
@@ -154,12 +154,15 @@ module _ (scene : Scene) (ask : Ask) (b : Branch) (z : Target) (rest : List Targ
   distinct_now : AllPairs (λ (x y : Target). x.name ≢ y.name) (z ∷ rest)
   distinct_now = subst (λ ts. AllPairs (λ (x y : Target). x.name ≢ y.name) ts) is kept.distinct
 
-  -- the target's name is not free
-  pub name_not_free : (k : ℕ) → ¬ IsFree b z.name k
-  name_not_free k f = elim (kept.names z first_in) [
+  -- a target's name is not free
+  pub sought_not_free : (y : Target) (k : ℕ) → Contains b.targets y → ¬ IsFree b y.name k
+  sought_not_free y k c f = elim (kept.names y c) [
     | inl new ↦ let e : None ≡ Some k = sym new.no_level ∙ f.0 in cc
-    | inr bound ↦ bound.composed z.name f.1
+    | inr bound ↦ bound.composed y.name f.1
   ]
+
+  pub name_not_free : (k : ℕ) → ¬ IsFree b z.name k
+  name_not_free k f = sought_not_free z k first_in f
 
   -- an open variable is the target's name, at its level, or another one, which stays open
   pub open_cases : (y k : ℕ) → IsOpen b y k → ((y ≡ z.name) × (k ≡ z.level)) ⊎ ((y ≢ z.name) × (((x : Target) × Contains rest x × (x.name ≡ y) × (x.level ≡ k)) ⊎ IsFree b y k))
@@ -193,7 +196,7 @@ module _ (scene : Scene) (ask : Ask) (b : Branch) (z : Target) (rest : List Targ
   abbrev p : ℕ → Tree
   p = image (single z.name (leaf (var w)))
 
-  w_free : IsFree b w up.0
+  pub w_free : IsFree b w up.0
   w_free = (up.1, sym (sub_var b.theta w term) ∙ idem)
     where
       sub_var : (th : ℕ → Tree) (v : ℕ) → substitute b.theta z.term ≡ leaf (var v) → substitute th (substitute b.theta z.term) ≡ th v
@@ -202,9 +205,9 @@ module _ (scene : Scene) (ask : Ask) (b : Branch) (z : Target) (rest : List Targ
       idem : substitute b.theta (substitute b.theta z.term) ≡ leaf (var w)
       idem = substitute_in_turn b.theta b.theta z.term ∙ substitute_agrees (λ x. substitute b.theta (b.theta x)) b.theta z.term (λ x k. kept.idempotent x) ∙ term
 
-  open_before : (y k : ℕ) → IsOpen next y k → IsOpen b y k
-  open_before y k (inl q) = inl (q.0, rest_in scene ask b z rest kept is q.0 q.1, q.2, q.3)
-  open_before y k (inr f) = inr f
+  pub open_before_follow : (y k : ℕ) → IsOpen next y k → IsOpen b y k
+  open_before_follow y k (inl q) = inl (q.0, rest_in scene ask b z rest kept is q.0 q.1, q.2, q.3)
+  open_before_follow y k (inr f) = inr f
 
   open_after : (y k : ℕ) → IsOpen b y k → ((y ≡ z.name) × (k ≡ z.level)) ⊎ ((y ≢ z.name) × IsOpen next y k)
   open_after y k o = open_cases scene ask b z rest kept is y k o
@@ -247,11 +250,11 @@ module _ (scene : Scene) (ask : Ask) (b : Branch) (z : Target) (rest : List Targ
       subst (λ t. IsSubterm t (substitute p (b.trees x))) (elsewhere z.name (leaf (var w)) y (other_now y k o)) (keeps_subterms (variables_to p) c)
 
   least_before : (y l : ℕ) → IsOpen next y l → IsInBindings scene b y → (x k : ℕ) × (level_of scene.system.levels x ≡ Some k) × StandsIn (var y) (next.trees x) × (k ≤ l)
-  least_before y l o i = let h = kept.least y l (open_before y l o) i in (h.0, h.1, h.2, stands_after y l h.0 o h.3, h.4)
+  least_before y l o i = let h = kept.least y l (open_before_follow y l o) i in (h.0, h.1, h.2, stands_after y l h.0 o h.3, h.4)
 
   least_new : (y l : ℕ) → IsOpen next y l → IsInBindings scene next y → ¬ IsInBindings scene b y → (x k : ℕ) × (level_of scene.system.levels x ≡ Some k) × StandsIn (var y) (next.trees x) × (k ≤ l)
   least_new y l o i never =
-      (i.0, i.1, i.2, i.3, omega (arith, kept.others y l (open_before y l o) never, below_m i.0 i.1 i.2))
+      (i.0, i.1, i.2, i.3, omega (arith, kept.others y l (open_before_follow y l o) never, below_m i.0 i.1 i.2))
 
   pub follows_keep : IsKept scene ask next
   follows_keep = record {
@@ -266,17 +269,17 @@ module _ (scene : Scene) (ask : Ask) (b : Branch) (z : Target) (rest : List Targ
       | inl new ↦ inl (still_new scene ask b z rest kept is next refl refl refl y.name new)
       | inr bound ↦ inr (record { level = bound.level; term = bound.term; composed = bound.composed })
     ];
-    below_next = λ y l o. kept.below_next y l (open_before y l o);
+    below_next = λ y l o. kept.below_next y l (open_before_follow y l o);
     new_numbers = λ n h. let k = kept.new_numbers n h in (still_new scene ask b z rest kept is next refl refl refl n k.0, k.1);
-    fresh = λ y l o. kept.fresh y l (open_before y l o);
+    fresh = λ y l o. kept.fresh y l (open_before_follow y l o);
     next_high = kept.next_high;
     levels = kept.levels;
-    up_to_m = λ y l o. kept.up_to_m y l (open_before y l o);
+    up_to_m = λ y l o. kept.up_to_m y l (open_before_follow y l o);
     bindings = λ x l e. built l (b.trees x) (leaf (var x)) (kept.bindings x l e);
     answers = λ y c. built y.level (b.trees y.name) y.term (kept.answers y c);
     unbound = unbound_stays;
     least = λ y l o i. elim (in_bindings_or_not scene b y) [ inl k ↦ least_before y l o k | inr k ↦ least_new y l o i k ];
-    others = λ y l o never. kept.others y l (open_before y l o) (λ i. never (i.0, i.1, i.2, stands_after y l i.0 o i.3));
+    others = λ y l o never. kept.others y l (open_before_follow y l o) (λ i. never (i.0, i.1, i.2, stands_after y l i.0 o i.3));
   }
 
 -- what is told of each pair of levels is told of each variable's

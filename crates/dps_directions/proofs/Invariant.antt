@@ -1,13 +1,12 @@
--- What every branch of a search keeps, and what follows a solution along it.
-use Rattle.std.specs.Prelude.{◌≡◌, ◌≢◌, ◌⊎◌, ◌<◌, ◌≤◌, ℕ, List, Some, None, Contains, AllPairs, ⊤}
+-- What every branch of a search keeps.
+use Rattle.std.specs.Prelude.{◌≡◌, ◌≢◌, ◌⊎◌, ◌<◌, ◌≤◌, ℕ, Some, None, Contains, AllPairs, ⊤}
 use Rattle.dps_terms.specs.Tree.{Leaf, public, private, var, ax, entry, rigid, Tree, leaf, StandsIn}
-use Rattle.dps_terms.specs.Replace.{replace, substitute, put_entries, numbered}
+use Rattle.dps_terms.specs.Replace.{replace, substitute, numbered}
 use Rattle.dps_terms.specs.Kinds.{IsBuiltOf, AnySymbol}
 use Rattle.dps_unify.specs.Order.{level_of}
-use Rattle.dps_solver.specs.Levels.{IsEntryUpTo, IsGroundUpTo, AnyRigidName}
+use Rattle.dps_solver.specs.Levels.{IsEntryUpTo}
 use Rattle.dps_solver.specs.Scene.{Scene, Ask}
 use Rattle.dps_solver.specs.declared.scene.Target.{Target}
-use Rattle.dps_solver.specs.Solutions.{valued, IsNormalUnder}
 use Rattle.dps_solver.specs.Search.{Branch, system_numbers}
 
 -- a tree is still sought for the variable, at this level
@@ -103,17 +102,3 @@ pub record IsKept (scene : Scene) (ask : Ask) (b : Branch) : Type 0 where
       (y l : ℕ) → IsOpen b y l → IsInBindings scene b y
       → (x k : ℕ) × (level_of scene.system.levels x ≡ Some k) × StandsIn (var y) (b.trees x) × (k ≤ l)
   pub others : (y l : ℕ) → IsOpen b y l → ¬ IsInBindings scene b y → l ≡ scene.system.m
-
--- Under the solution s, whose valuation is g, the values eta of all variables and the trees psi of the open ones go with
--- the branch.
-pub record GoesWith (scene : Scene) (b : Branch) (s : ℕ → Tree) (g : List Tree) (eta psi : ℕ → Tree) : Type 0 where
-  pub bindings : (x l : ℕ) → level_of scene.system.levels x ≡ Some l → substitute psi (b.trees x) ≡ s x
-  pub levels : (y l : ℕ) → IsOpen b y l → IsGroundUpTo AnyRigidName scene.system.m scene.system.know l (psi y)
-  pub free : (y l : ℕ) → IsFree b y l → put_entries g (psi y) ≡ eta y
-  pub sought : (z : Target) → Contains b.targets z → put_entries g (psi z.name) ≡ substitute eta z.term
-  pub values : (x : ℕ) → substitute eta (b.theta x) ≡ eta x
-  pub agrees : (x l : ℕ) → level_of scene.system.levels x ≡ Some l → eta x ≡ valued g s x
-
--- the trees of the open variables are normal
-abbrev pub AreNormalTrees : Scene → Branch → (ℕ → Tree) → (ℕ → Tree) → Type 0
-AreNormalTrees scene b s psi = (y l : ℕ) → IsOpen b y l → IsNormalUnder s scene.system (psi y)

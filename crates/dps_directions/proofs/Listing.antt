@@ -15,3 +15,6 @@ contains_any P (y ∷ xs) x h p = elim (in_cons x y xs h) [
 pub zip_mapped : {X Y Z : Type 0} (R : X → Z → Type 0) (f : X → Y) (h : Y → Z) (xs : List X) → ((x : X) → Contains xs x → R x (h (f x))) → AllZip R xs (map h (map f xs))
 zip_mapped R f h [] all = tt
 zip_mapped R f h (x ∷ xs) all = (all x (in_head x xs), zip_mapped R f h xs (λ y c. all y (in_tail y x xs c)))
+
+pub any_at : {X : Type 0} (P : X → Type 0) (xs : List X) → Any P xs → (x : X) × Contains xs x × P x
+any_at P xs (k, x, l, e, p) = (x, (k, l, e), p)

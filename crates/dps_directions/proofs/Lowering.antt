@@ -76,7 +76,7 @@ module _ (scene : Scene) (ask : Ask) (b : Branch) (z : Target) (rest : List Targ
   first : Contains b.targets z
   first = first_in scene ask b z rest kept is
 
-  z_new : IsNew scene ask b z.name
+  pub z_new : IsNew scene ask b z.name
   z_new = elim (kept.names z first) [ inl new ↦ new | inr bound ↦ absurd (bound.composed w (bound.term ∙ term)) ]
 
   -- a new name is not w
@@ -84,7 +84,7 @@ module _ (scene : Scene) (ask : Ask) (b : Branch) (z : Target) (rest : List Targ
   not_w n new apart e =
       not_under scene ask b n new apart z.term (sought_for first) (subst (λ t. StandsIn (var n) t) (sym term) (subst (λ k. StandsIn (var n) (leaf (var k))) (sym e) itself))
 
-  not_z : w ≢ z.name
+  pub not_z : w ≢ z.name
   not_z = not_w z.name z_new (λ x d. kept.apart z x first d)
 
   q_w : q w ≡ leaf (var z.name)
@@ -102,10 +102,10 @@ module _ (scene : Scene) (ask : Ask) (b : Branch) (z : Target) (rest : List Targ
       sub_var : (v : ℕ) → substitute b.theta z.term ≡ leaf (var v) → substitute b.theta (substitute b.theta z.term) ≡ b.theta v
       sub_var v e = ap (substitute b.theta) e
 
-  theta_z : next.theta z.name ≡ leaf (var z.name)
+  pub theta_z : next.theta z.name ≡ leaf (var z.name)
   theta_z = ap (substitute q) z_new.unbound ∙ q_z
 
-  theta_w : next.theta w ≡ leaf (var z.name)
+  pub theta_w : next.theta w ≡ leaf (var z.name)
   theta_w = ap (substitute q) w_unbound ∙ q_w
 
   theta_term : substitute next.theta z.term ≡ leaf (var z.name)
@@ -115,7 +115,7 @@ module _ (scene : Scene) (ask : Ask) (b : Branch) (z : Target) (rest : List Targ
   later t u e = sym (substitute_in_turn q b.theta t) ∙ ap (substitute q) e ∙ substitute_in_turn q b.theta u
 
   -- what becomes a variable was one
-  becomes : (x y : ℕ) → next.theta x ≡ leaf (var y) → ((b.theta x ≡ leaf (var w)) × (y ≡ z.name)) ⊎ (b.theta x ≡ leaf (var y))
+  pub becomes : (x y : ℕ) → next.theta x ≡ leaf (var y) → ((b.theta x ≡ leaf (var w)) × (y ≡ z.name)) ⊎ (b.theta x ≡ leaf (var y))
   becomes x y e =
       let v = was_variable q (b.theta x) y e in
       let to : q v.0 ≡ leaf (var y) = sym (ap (substitute q) v.1) ∙ e in
@@ -124,8 +124,8 @@ module _ (scene : Scene) (ask : Ask) (b : Branch) (z : Target) (rest : List Targ
         | inr d ↦ inr (v.1 ∙ (sym (q_other v.0 d) ∙ to))
       ]
 
-  free_before : (y l : ℕ) → IsFree next y l → y ≢ z.name → IsFree b y l
-  free_before y l f d = (
+  pub free_before_lower : (y l : ℕ) → IsFree next y l → y ≢ z.name → IsFree b y l
+  free_before_lower y l f d = (
     sym (level_past (z.name, z.level) y b.levels (λ e. d (sym e))) ∙ f.0,
     elim (becomes y y f.1) [ inl k ↦ absurd (d k.1) | inr k ↦ k ],
   )
@@ -134,14 +134,14 @@ module _ (scene : Scene) (ask : Ask) (b : Branch) (z : Target) (rest : List Targ
   z_level : (l : ℕ) → level_of next.levels z.name ≡ Some l → l ≡ z.level
   z_level l e = same_some l z.level (sym e ∙ level_there z.name z.level z.name b.levels refl)
 
-  open_before : (y l : ℕ) → IsOpen next y l → IsOpen b y l
-  open_before y l (inl p) = inl (p.0, rest_in scene ask b z rest kept is p.0 p.1, p.2, p.3)
-  open_before y l (inr f) = elim (same_number y z.name) [
+  pub open_before_lower : (y l : ℕ) → IsOpen next y l → IsOpen b y l
+  open_before_lower y l (inl p) = inl (p.0, rest_in scene ask b z rest kept is p.0 p.1, p.2, p.3)
+  open_before_lower y l (inr f) = elim (same_number y z.name) [
     | inl e ↦ inl (z, first, sym e, sym (z_level l (subst (λ n. level_of next.levels n ≡ Some l) e f.0)))
-    | inr d ↦ inr (free_before y l f d)
+    | inr d ↦ inr (free_before_lower y l f d)
   ]
 
-  not_w_pending : (y : Target) → Contains rest y → y.name ≢ w
+  pub not_w_pending : (y : Target) → Contains rest y → y.name ≢ w
   not_w_pending y c e = elim (kept.names y (rest_in scene ask b z rest kept is y c)) [
     | inl new ↦ not_w y.name new (λ x d. kept.apart y x (rest_in scene ask b z rest kept is y c) d) (sym e)
     | inr bound ↦ bound.composed w (ap b.theta e ∙ w_unbound)
@@ -208,10 +208,10 @@ module _ (scene : Scene) (ask : Ask) (b : Branch) (z : Target) (rest : List Targ
   stands_after y k x o c = subst (λ t. IsSubterm t (substitute q (b.trees x))) (q_other y (open_not_w y k o)) (keeps_subterms (variables_to q) c)
 
   least_before : (y l : ℕ) → IsOpen next y l → IsInBindings scene b y → (x k : ℕ) × (level_of scene.system.levels x ≡ Some k) × StandsIn (var y) (next.trees x) × (k ≤ l)
-  least_before y l o i = let h = kept.least y l (open_before y l o) i in (h.0, h.1, h.2, stands_after y l h.0 o h.3, h.4)
+  least_before y l o i = let h = kept.least y l (open_before_lower y l o) i in (h.0, h.1, h.2, stands_after y l h.0 o h.3, h.4)
 
   least_new : (y l : ℕ) → IsOpen next y l → IsInBindings scene next y → ¬ IsInBindings scene b y → (x k : ℕ) × (level_of scene.system.levels x ≡ Some k) × StandsIn (var y) (next.trees x) × (k ≤ l)
-  least_new y l o i never = (i.0, i.1, i.2, i.3, omega (arith, kept.others y l (open_before y l o) never, below_m i.0 i.1 i.2))
+  least_new y l o i never = (i.0, i.1, i.2, i.3, omega (arith, kept.others y l (open_before_lower y l o) never, below_m i.0 i.1 i.2))
 
   -- what stands under the new substitution
   stands_before : (n x : ℕ) → StandsIn (var n) (next.theta x) → n ≢ z.name → StandsIn (var n) (b.theta x)
@@ -270,10 +270,10 @@ module _ (scene : Scene) (ask : Ask) (b : Branch) (z : Target) (rest : List Targ
   means_free_now : (y l : ℕ) → IsFree next y l → after y ≡ leaf (var y)
   means_free_now y l f = elim (same_number y z.name) [
     | inl e ↦ subst (λ n. after n ≡ leaf (var n)) (sym e) after_z
-    | inr d ↦ after_else y d ∙ kept.means_free y l (free_before y l f d)
+    | inr d ↦ after_else y d ∙ kept.means_free y l (free_before_lower y l f d)
   ]
 
-  scene_not_z : (x l : ℕ) → level_of scene.system.levels x ≡ Some l → x ≢ z.name
+  pub scene_not_z : (x l : ℕ) → level_of scene.system.levels x ≡ Some l → x ≢ z.name
   scene_not_z x l e d = let f : None ≡ Some l = sym z_new.no_level ∙ sym (ap (level_of b.levels) d) ∙ kept.levels x l e in cc
 
   unbound_now : (x l : ℕ) → level_of scene.system.levels x ≡ Some l → next.theta x ≡ leaf (var x) → next.trees x ≡ leaf (var x)
@@ -295,18 +295,18 @@ module _ (scene : Scene) (ask : Ask) (b : Branch) (z : Target) (rest : List Targ
       | inl new ↦ inl (still_new y.name (rest_not_z y c) new (λ x d. kept.apart y x (rest_in scene ask b z rest kept is y c) d))
       | inr bound ↦ inr (still_bound y (rest_not_z y c) bound)
     ];
-    below_next = λ y l o. kept.below_next y l (open_before y l o);
+    below_next = λ y l o. kept.below_next y l (open_before_lower y l o);
     new_numbers = λ n h.
         let k = kept.new_numbers n h in
         let d : n ≢ z.name = λ e. let low = kept.below_next z.name z.level (inl (z, first, refl, refl)) in omega (arith, e, h, low) in
         (still_new n d k.0 k.1, λ x i c. k.1 x i (stands_before n x c d));
     levels = λ x l e. level_past (z.name, z.level) x b.levels (λ d. scene_not_z x l e (sym d)) ∙ kept.levels x l e;
-    fresh = λ y l o. kept.fresh y l (open_before y l o);
+    fresh = λ y l o. kept.fresh y l (open_before_lower y l o);
     next_high = kept.next_high;
-    up_to_m = λ y l o. kept.up_to_m y l (open_before y l o);
+    up_to_m = λ y l o. kept.up_to_m y l (open_before_lower y l o);
     bindings = λ x l e. built l (b.trees x) (leaf (var x)) (kept.bindings x l e);
     answers = λ y c. built y.level (b.trees y.name) y.term (kept.answers y c);
     unbound = unbound_now;
     least = λ y l o i. elim (in_bindings_or_not scene b y) [ inl k ↦ least_before y l o k | inr k ↦ least_new y l o i k ];
-    others = λ y l o never. kept.others y l (open_before y l o) (λ i. never (i.0, i.1, i.2, stands_after y l i.0 o i.3));
+    others = λ y l o never. kept.others y l (open_before_lower y l o) (λ i. never (i.0, i.1, i.2, stands_after y l i.0 o i.3));
   }

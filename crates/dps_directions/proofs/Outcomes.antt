@@ -1,17 +1,19 @@
 -- What a listed solution is like.
 use Rattle.std.proofs.Common.{◌≡◌, ℕ, ◌≤◌, List, [], ◌⊎◌, inl, inr, Option, Some, None, refl, sym, ◌∙◌, ap, arith, subst, Contains, if◌then◌else◌}
 use Rattle.std.specs.Prelude.{is_some}
-use Rattle.dps_terms.specs.Tree.{var, rigid, leaf, StandsIn, IsSubterm, itself}
+use Rattle.dps_terms.specs.Tree.{Leaf, public, private, var, ax, entry, rigid, leaf, StandsIn, IsSubterm, itself}
 use Rattle.dps_terms.specs.Replace.{variables_to}
 use Rattle.dps_terms.specs.Kinds.{AnySymbol}
 use Rattle.dps_terms.proofs.Replacing.{keeps_subterms}
-use Rattle.dps_terms.proofs.Building.{leaf_meets, built_subterm}
+use Rattle.dps_terms.proofs.Building.{leaf_meets, built_subterm, built_of}
 use Rattle.dps_terms.proofs.Subterms.{nested}
 use Rattle.dps_unify.specs.Order.{level_of}
-use Rattle.dps_solver.specs.Levels.{IsLeafUpTo}
+use Rattle.dps_solver.specs.Levels.{IsVariableUpTo, IsLeafUpTo}
 use Rattle.dps_solver.specs.Scene.{Scene, Ask}
 use Rattle.dps_solver.specs.Search.{GeneralSolution, IsPlain, Branch, bindings_of}
 use Rattle.dps_directions.proofs.Invariant.{IsFree, IsOpen, IsBuiltLeaf}
+use Rattle.dps_directions.specs.Values.{AreTreesOver}
+use Rattle.dps_directions.specs.Directions.{HoldsRigidNamesOf}
 use Rattle.dps_directions.specs.Shapes.{PartsAreUpTo}
 use Rattle.dps_directions.proofs.Steps.{IsOutcome, LevelIsLeast}
 
@@ -24,7 +26,7 @@ bindings_else scene b x e = ap (λ (o : Option ℕ). if is_some o then b.trees x
 pub nothing_in : {X : Type 0} (xs : List X) (x : X) → xs ≡ [] → Contains xs x → ⊥
 nothing_in xs x e c = let d : Contains [] x = subst (λ ys. Contains ys x) e c in omega (arith, d.1)
 
-levels_cases : (o : Option ℕ) → (o ≡ None) ⊎ ((l : ℕ) × (o ≡ Some l))
+pub levels_cases : (o : Option ℕ) → (o ≡ None) ⊎ ((l : ℕ) × (o ≡ Some l))
 levels_cases None = inl refl
 levels_cases (Some l) = inr (l, refl)
 
@@ -68,6 +70,29 @@ module _ (scene : Scene) (ask : Ask) (solution : GeneralSolution) (o : IsOutcome
   low_at x l k e c =
       let there : StandsIn (rigid k) (o.last.trees x) = subst (λ t. StandsIn (rigid k) t) (binding_at x l e) c in
       leaf_meets (IsBuiltLeaf scene o.last l) AnySymbol (o.kept.bindings x l e).leaves there
+
+-- bindings are trees of the levels
+module _ (names : ℕ → Type 0) (scene : Scene) (ask : Ask) (solution : GeneralSolution) (o : IsOutcome scene ask solution) (levels : List (ℕ × ℕ))
+    (holds : HoldsRigidNamesOf names scene solution)
+    (low : (x l y : ℕ) → level_of scene.system.levels x ≡ Some l → StandsIn (var y) (solution.bindings x) → IsVariableUpTo levels l y) where
+  leaf_up_to : (x l : ℕ) → level_of scene.system.levels x ≡ Some l → (v : Leaf) → StandsIn v (solution.bindings x) → IsBuiltLeaf scene o.last l v
+      → IsLeafUpTo names scene.system.m scene.system.know levels l v
+  leaf_up_to x l e (public n) c h = tt
+  leaf_up_to x l e (private n) c h = h
+  leaf_up_to x l e (ax n) c h = h
+  leaf_up_to x l e (entry i) c h = h
+  leaf_up_to x l e (rigid k) c h = (holds x l k e c, h)
+  leaf_up_to x l e (var y) c h = low x l y e c
+
+  pub bindings_up_to : AreTreesOver names scene.system levels solution.bindings
+  bindings_up_to = record {
+    trees = λ x l e.
+        built_of (IsLeafUpTo names scene.system.m scene.system.know levels l) AnySymbol (solution.bindings x)
+        (λ v c. leaf_up_to x l e v c
+        (leaf_meets (IsBuiltLeaf scene o.last l) AnySymbol (o.kept.bindings x l e).leaves
+        (subst (λ t. StandsIn v t) (binding_at scene ask solution o x l e) c)))
+        (λ f ts c. tt);
+  }
 
 pub level_is_least : (scene : Scene) (ask : Ask) → LevelIsLeast scene ask
 level_is_least scene ask = λ solution o x k y l e c at.

@@ -17,7 +17,8 @@ use Rattle.dps_solver.specs.Scene.{Disequation, System, Scene, Ask}
 use Rattle.dps_solver.specs.Solutions.{Respects, IsSolution, IsNormalUnder, IsMatchedUnder}
 use Rattle.dps_solver.specs.Search.{Branch, bindings_of, system_numbers, entry_numbers, disequation_numbers}
 use Rattle.dps_directions.specs.Valid.{IsValid, IsComposed, IsPatternLeaf}
-use Rattle.dps_directions.proofs.Invariant.{IsOpen, IsBuiltLeaf, IsKept, GoesWith}
+use Rattle.dps_directions.proofs.Invariant.{IsOpen, IsBuiltLeaf, IsKept}
+use Rattle.dps_directions.proofs.Course.{Course, GoesWith}
 use Rattle.dps_directions.proofs.Ahead.{EndsRespect}
 use Rattle.dps_know.proofs.Listing.{in_cons, in_head, in_tail, in_none, in_left, in_right, mapped_contains}
 use Rattle.dps_directions.proofs.Following.{same_number}
@@ -32,7 +33,7 @@ unmapped f (x ∷ xs) y c = elim (in_cons y (f x) (map f xs) c) [
   | inr k ↦ let h = unmapped f xs y k in (h.0, in_tail h.0 x xs h.1, h.2)
 ]
 
-contains_or_not : (ns : List ℕ) (n : ℕ) → Contains ns n ⊎ ¬ Contains ns n
+pub contains_or_not : (ns : List ℕ) (n : ℕ) → Contains ns n ⊎ ¬ Contains ns n
 contains_or_not [] n = inr (in_none n)
 contains_or_not (m ∷ ns) n = elim (same_number m n) [
   | inl e ↦ inl (subst (λ k. Contains (m ∷ ns) k) e (in_head m ns))
@@ -61,13 +62,43 @@ pub ground_stays : (names : ℕ → Type 0) (system : System) (l : ℕ) (t : Tre
 ground_stays names system l t r up =
     substitute_stays r t (λ n c. let h = leaf_meets (IsLeafUpTo names system.m system.know [] l) AnySymbol up c in absurd (no_level_in_none n h.0 h.1))
 
-module _ (names : ℕ → Type 0) (scene : Scene) (ask : Ask) (b : Branch) (s eta psi : ℕ → Tree) (g : List Tree) (valid : IsValid names scene)
-    (kept : IsKept scene ask b) (solution : IsSolution names scene.system s) (goes : GoesWith scene b s g eta psi) where
+-- what stands in trees is no free variable of a disequation
+module _ (names : ℕ → Type 0) (scene : Scene) (ask : Ask) (b : Branch) (valid : IsValid names scene) (kept : IsKept scene ask b) where
+  free_number : (d : Disequation) (n : ℕ) → Contains scene.system.disequations d → Contains d.free n → Contains (system_numbers scene.system) n
+  free_number d n there c =
+      let pairs = flat_map (λ (p : Tree × Tree). occurrences p.0 ++ occurrences p.1) d.pairs in
+      let here = in_flat disequation_numbers scene.system.disequations d n there (in_left n d.free pairs c) in
+      in_right n (map (λ (p : ℕ × ℕ). p.0) scene.system.levels)
+      (flat_map entry_numbers scene.system.know.entries ++
+      (flat_map occurrences (compositions scene.system.know) ++
+      (flat_map occurrences scene.system.know.handles ++ (flat_map occurrences scene.system.labels ++ flat_map disequation_numbers scene.system.disequations))))
+      (in_right n (flat_map entry_numbers scene.system.know.entries)
+      (flat_map occurrences (compositions scene.system.know) ++
+      (flat_map occurrences scene.system.know.handles ++ (flat_map occurrences scene.system.labels ++ flat_map disequation_numbers scene.system.disequations)))
+      (in_right n (flat_map occurrences (compositions scene.system.know))
+      (flat_map occurrences scene.system.know.handles ++ (flat_map occurrences scene.system.labels ++ flat_map disequation_numbers scene.system.disequations))
+      (in_right n (flat_map occurrences scene.system.know.handles) (flat_map occurrences scene.system.labels ++ flat_map disequation_numbers scene.system.disequations)
+      (in_right n (flat_map occurrences scene.system.labels) (flat_map disequation_numbers scene.system.disequations) here))))
+
+  pub open_not_free : (d : Disequation) (y l : ℕ) → Contains scene.system.disequations d → IsOpen b y l → ¬ Contains d.free y
+  open_not_free d y l there o c = elim (kept.fresh y l o) [
+    | inl h ↦ let e : None ≡ Some h.0 = sym (valid.free d there y c) ∙ h.1 in cc
+    | inr h ↦ let low = h y (free_number d y there c) in omega (arith, low)
+  ]
+
+module _ (names : ℕ → Type 0) (scene : Scene) (ask : Ask) (course : Course names scene ask) (b : Branch) (eta psi : ℕ → Tree) (valid : IsValid names scene)
+    (kept : IsKept scene ask b) (goes : GoesWith names scene ask course b eta psi) where
+  abbrev s : ℕ → Tree
+  s = course.s
+
+  solution : IsSolution names scene.system course.s
+  solution = course.solution
+
   abbrev z : ℕ → Tree
   z = bindings_of scene b
 
   at_variable : (x l : ℕ) → level_of scene.system.levels x ≡ Some l → substitute psi (z x) ≡ s x
-  at_variable x l e = ap (substitute psi) (bindings_at scene b x l e) ∙ goes.bindings x l e
+  at_variable x l e = ap (substitute psi) (bindings_at scene b x l e) ∙ goes.trees x (course.among x l e) ∙ course.ends x l e
 
   same_on : (l : ℕ) (t : Tree) → IsTreeUpTo AnyRigidName scene.system.m scene.system.know scene.system.levels l t → substitute psi (substitute z t) ≡ substitute s t
   same_on l t up =
@@ -99,32 +130,10 @@ module _ (names : ℕ → Type 0) (scene : Scene) (ask : Ask) (b : Branch) (s et
     keeps' : Keeps d.free r'
     keeps' n h = pick_else (contains_or_not d.free n) (substitute psi (r n)) (leaf (var n)) h
 
-    free_number : (n : ℕ) → Contains d.free n → Contains (system_numbers scene.system) n
-    free_number n c =
-        let pairs = flat_map (λ (p : Tree × Tree). occurrences p.0 ++ occurrences p.1) d.pairs in
-        let here = in_flat disequation_numbers scene.system.disequations d n there (in_left n d.free pairs c) in
-        in_right n (map (λ (p : ℕ × ℕ). p.0) scene.system.levels)
-        (flat_map entry_numbers scene.system.know.entries ++
-        (flat_map occurrences (compositions scene.system.know) ++
-        (flat_map occurrences scene.system.know.handles ++ (flat_map occurrences scene.system.labels ++ flat_map disequation_numbers scene.system.disequations))))
-        (in_right n (flat_map entry_numbers scene.system.know.entries)
-        (flat_map occurrences (compositions scene.system.know) ++
-        (flat_map occurrences scene.system.know.handles ++ (flat_map occurrences scene.system.labels ++ flat_map disequation_numbers scene.system.disequations)))
-        (in_right n (flat_map occurrences (compositions scene.system.know))
-        (flat_map occurrences scene.system.know.handles ++ (flat_map occurrences scene.system.labels ++ flat_map disequation_numbers scene.system.disequations))
-        (in_right n (flat_map occurrences scene.system.know.handles) (flat_map occurrences scene.system.labels ++ flat_map disequation_numbers scene.system.disequations)
-        (in_right n (flat_map occurrences scene.system.labels) (flat_map disequation_numbers scene.system.disequations) here))))
-
-    open_not_free : (y l : ℕ) → IsOpen b y l → ¬ Contains d.free y
-    open_not_free y l o c = elim (kept.fresh y l o) [
-      | inl h ↦ let e : None ≡ Some h.0 = sym (valid.free d there y c) ∙ h.1 in cc
-      | inr h ↦ let low = h y (free_number y c) in omega (arith, low)
-    ]
-
     r_stays : (x l : ℕ) → level_of scene.system.levels x ≡ Some l → substitute r (z x) ≡ z x
     r_stays x l e =
         subst (λ t. substitute r t ≡ t) (sym (bindings_at scene b x l e))
-        (substitute_stays r (b.trees x) (λ n c. let h = leaf_meets (IsBuiltLeaf scene b l) AnySymbol (kept.bindings x l e).leaves c in keeps n (open_not_free n h.0 h.1)))
+        (substitute_stays r (b.trees x) (λ n c. let h = leaf_meets (IsBuiltLeaf scene b l) AnySymbol (kept.bindings x l e).leaves c in keeps n (open_not_free names scene ask b valid kept d n h.0 there h.1)))
 
     at_level : (x l : ℕ) → level_of scene.system.levels x ≡ Some l → substitute r' (s x) ≡ substitute psi (substitute r (z x))
     at_level x l e = ground_stays names scene.system l (s x) r' (solution.choice.trees x l e) ∙ sym (ap (substitute psi) (r_stays x l e) ∙ at_variable x l e)
@@ -179,4 +188,4 @@ module _ (names : ℕ → Type 0) (scene : Scene) (ask : Ask) (b : Branch) (s et
   respected = record { labels = labels_normal; disequations = all_of (λ (d : Disequation). ¬ IsMatchedUnder z d) scene.system.disequations unmatched }
 
 pub ends_respect : (names : ℕ → Type 0) (scene : Scene) (ask : Ask) → EndsRespect names scene ask
-ends_respect names scene ask = λ b s eta psi g valid fits kept solution goes e. respected names scene ask b s eta psi g valid kept solution goes
+ends_respect names scene ask = λ course b eta psi valid fits kept goes e. respected names scene ask course b eta psi valid kept goes

@@ -7,10 +7,11 @@ use Rattle.dps_unify.specs.Order.{level_of}
 use Rattle.dps_unify.specs.Unifier.{Unifies, IsMgu}
 use Rattle.dps_solver.specs.Scene.{Scene, Ask}
 use Rattle.dps_solver.specs.declared.scene.Target.{Target}
-use Rattle.dps_solver.specs.Solutions.{identity, Respects, IsSolution, IsValuation}
-use Rattle.dps_solver.specs.Search.{GeneralSolution, Branch, Way, ways, Leads, Lists, Finds, bindings_of, solution_of, unbound, AreNewlyBound, with_bound}
+use Rattle.dps_solver.specs.Solutions.{identity, Respects}
+use Rattle.dps_solver.specs.Search.{GeneralSolution, Branch, Way, ways, Leads, Finds, bindings_of, solution_of, unbound, AreNewlyBound, with_bound}
 use Rattle.dps_directions.specs.Valid.{IsValid, Fits}
-use Rattle.dps_directions.proofs.Invariant.{IsKept, GoesWith}
+use Rattle.dps_directions.proofs.Invariant.{IsKept}
+use Rattle.dps_directions.proofs.Course.{Course, GoesWith}
 
 -- The start of a search keeps what branches keep.
 abbrev pub StartIsKept : (ℕ → Type 0) → Scene → Ask → Type 0
@@ -50,18 +51,10 @@ LevelIsLeast scene ask =
     → (l ≤ k) × ((v j : ℕ) × (level_of scene.system.levels v ≡ Some j) × StandsIn (var y) (solution.bindings v) × (j ≡ l))
 
 -- what a solution becomes at the end of a branch that it goes with
-pub record IsReached (scene : Scene) (ask : Ask) (list : List GeneralSolution) (s : ℕ → Tree) (g : List Tree) (eta : ℕ → Tree) : Type 0 where
+pub record IsReached (names : ℕ → Type 0) (scene : Scene) (ask : Ask) (course : Course names scene ask) (list : List GeneralSolution) : Type 0 where
   pub solution : GeneralSolution
   pub listed : Contains list solution
   pub outcome : IsOutcome scene ask solution
-  pub eta_after : ℕ → Tree
+  pub eta : ℕ → Tree
   pub psi : ℕ → Tree
-  pub goes : GoesWith scene outcome.last s g eta_after psi
-
--- A solution is followed to a listed one.
-abbrev pub SolutionsAreFollowed : (ℕ → Type 0) → Scene → Ask → Type 0
-SolutionsAreFollowed names scene ask =
-    (b : Branch) (list : List GeneralSolution) (moves : ℕ) (s eta psi : ℕ → Tree) (g : List Tree)
-    → IsValid names scene → Fits scene ask → IsKept scene ask b → Unifies b.theta ask.equations
-    → IsSolution names scene.system s → IsValuation scene s g → GoesWith scene b s g eta psi
-    → Lists scene ask b list moves → IsReached scene ask list s g eta
+  pub goes : GoesWith names scene ask course outcome.last eta psi

@@ -84,10 +84,10 @@ module _ (scene : Scene) (ask : Ask) (b : Branch) (kept : IsKept scene ask b) (u
       ∙ substitute_agrees (λ v. substitute th (image u v)) (image u) (b.theta x)
       (λ v c. substitute_agrees th (image u) (image u v) (λ n k. ap (substitute (image u)) (fixed_in x v n c k)) ∙ mgu.idempotent v)
 
-  th_fixed : (x n : ℕ) → StandsIn (var n) (th x) → th n ≡ leaf (var n)
+  pub th_fixed : (x n : ℕ) → StandsIn (var n) (th x) → th n ≡ leaf (var n)
   th_fixed x n c = fixed th (th x) (th_idempotent x) n c
 
-  th_levelled : (x l y : ℕ) → level_of b.levels x ≡ Some l → th x ≡ leaf (var y) → (k : ℕ) × (level_of b.levels y ≡ Some k) × (k ≤ l)
+  pub th_levelled : (x l y : ℕ) → level_of b.levels x ≡ Some l → th x ≡ leaf (var y) → (k : ℕ) × (level_of b.levels y ≡ Some k) × (k ≤ l)
   th_levelled x l y e f =
       let v = was_variable (image u) (b.theta x) y f in
       let to : image u v.0 ≡ leaf (var y) = sym (ap (substitute (image u)) v.1) ∙ f in
@@ -100,7 +100,7 @@ module _ (scene : Scene) (ask : Ask) (b : Branch) (kept : IsKept scene ask b) (u
             (j.0, j.1, omega (arith, j.2, k.2))
       ]
 
-  back : (y : ℕ) → th y ≡ leaf (var y) → b.theta y ≡ leaf (var y)
+  pub back : (y : ℕ) → th y ≡ leaf (var y) → b.theta y ≡ leaf (var y)
   back y f =
       let v = was_variable (image u) (b.theta y) y f in
       let to : image u v.0 ≡ leaf (var y) = sym (ap (substitute (image u)) v.1) ∙ f in
@@ -120,19 +120,19 @@ module _ (scene : Scene) (ask : Ask) (b : Branch) (kept : IsKept scene ask b) (u
       (base_left : (y k : ℕ) → IsLeft left y k → base y ≡ leaf (var y)) (base_free : (y k : ℕ) → IsFree b y k → base y ≡ leaf (var y))
       (cases : (y k : ℕ) → IsOpen b y k → IsLeft left y k ⊎ (IsFree b y k ⊎ IsEntryNow scene th kept.means base y k))
       (below_m : (x l : ℕ) → level_of scene.system.levels x ≡ Some l → l ≤ scene.system.m) where
-    abbrev next : Branch
+    abbrev pub next : Branch
     next = after_all th ps (record b { theta = th; trees = (λ x. substitute base (b.trees x)); targets = left })
 
-    abbrev p : ℕ → Tree
+    abbrev pub p : ℕ → Tree
     p y = substitute (moves th ps) (base y)
 
-    newly_free : (q : ℕ × ℕ) → Contains ps q → IsFree b q.0 q.1
+    pub newly_free : (q : ℕ × ℕ) → Contains ps q → IsFree b q.0 q.1
     newly_free q c = let h = (newly.those q).0 c in (h.0, h.1)
 
-    newly_bound : (q : ℕ × ℕ) → Contains ps q → th q.0 ≢ leaf (var q.0)
+    pub newly_bound : (q : ℕ × ℕ) → Contains ps q → th q.0 ≢ leaf (var q.0)
     newly_bound q c = ((newly.those q).0 c).2
 
-    are_names : AreNames th ps
+    pub are_names : AreNames th ps
     are_names q r v c d e f =
         newly_bound r d (subst (λ n. th n ≡ leaf (var n)) (sym f) (th_fixed q.0 v (subst (λ t. StandsIn (var v) t) (sym e) itself)))
 
@@ -142,18 +142,18 @@ module _ (scene : Scene) (ask : Ask) (b : Branch) (kept : IsKept scene ask b) (u
     moves_left : (y : Target) → Contains left y → moves th ps y.name ≡ leaf (var y.name)
     moves_left y c = moves_else th ps y.name (λ q d e. pending_not_free y q.1 (left_in y c) (subst (λ n. IsFree b n q.1) e (newly_free q d)))
 
-    p_left : (y k : ℕ) → IsLeft left y k → p y ≡ leaf (var y)
+    pub p_left : (y k : ℕ) → IsLeft left y k → p y ≡ leaf (var y)
     p_left y k h = ap (substitute (moves th ps)) (base_left y k h) ∙ subst (λ n. moves th ps n ≡ leaf (var n)) h.2 (moves_left h.0 h.1)
 
-    p_fixed : (y k : ℕ) → IsFree b y k → th y ≡ leaf (var y) → p y ≡ leaf (var y)
+    pub p_fixed : (y k : ℕ) → IsFree b y k → th y ≡ leaf (var y) → p y ≡ leaf (var y)
     p_fixed y k f e = ap (substitute (moves th ps)) (base_free y k f) ∙ moves_fixed y e
 
-    p_bound : (q : ℕ × ℕ) → Contains ps q → p q.0 ≡ renamed (th q.0) q.0
+    pub p_bound : (q : ℕ × ℕ) → Contains ps q → p q.0 ≡ renamed (th q.0) q.0
     p_bound q c = ap (substitute (moves th ps)) (base_free q.0 q.1 (newly_free q c)) ∙ moves_at th ps q newly.ascending are_names c
 
-    open_before : (y l : ℕ) → IsOpen next y l → IsOpen b y l
-    open_before y l (inr f) = inr (f.0, back y f.1)
-    open_before y l (inl h) = elim (in_append h.0 left (new_targets th ps) h.1) [
+    pub open_before_unify : (y l : ℕ) → IsOpen next y l → IsOpen b y l
+    open_before_unify y l (inr f) = inr (f.0, back y f.1)
+    open_before_unify y l (inl h) = elim (in_append h.0 left (new_targets th ps) h.1) [
       | inl c ↦ inl (h.0, left_in h.0 c, h.2, h.3)
       | inr c ↦ inr (subst (λ n. IsFree b n l) h.2 (subst (λ n. IsFree b h.0.name n) h.3 (newly_free (h.0.name, h.0.level) (is_new th ps h.0 c).among)))
     ]
@@ -218,8 +218,8 @@ module _ (scene : Scene) (ask : Ask) (b : Branch) (kept : IsKept scene ask b) (u
 
     least_now : (y l : ℕ) → IsOpen next y l → IsInBindings scene next y → (x k : ℕ) × (level_of scene.system.levels x ≡ Some k) × StandsIn (var y) (next.trees x) × (k ≤ l)
     least_now y l o i = elim (in_bindings_or_not scene b y) [
-      | inl j ↦ let h = kept.least y l (open_before y l o) j in (h.0, h.1, h.2, stands_after y l h.0 o h.3, h.4)
-      | inr never ↦ (i.0, i.1, i.2, i.3, omega (arith, kept.others y l (open_before y l o) never, below_m i.0 i.1 i.2))
+      | inl j ↦ let h = kept.least y l (open_before_unify y l o) j in (h.0, h.1, h.2, stands_after y l h.0 o h.3, h.4)
+      | inr never ↦ (i.0, i.1, i.2, i.3, omega (arith, kept.others y l (open_before_unify y l o) never, below_m i.0 i.1 i.2))
     ]
 
     -- names
@@ -268,7 +268,7 @@ module _ (scene : Scene) (ask : Ask) (b : Branch) (kept : IsKept scene ask b) (u
       | inr k ↦ inr (new_bound y (is_new th ps y k))
     ]
 
-    apart_now : (y : Target) (x : ℕ) → Contains (left ++ new_targets th ps) y → x ≢ y.name → ¬ StandsIn (var y.name) (th x)
+    pub apart_now : (y : Target) (x : ℕ) → Contains (left ++ new_targets th ps) y → x ≢ y.name → ¬ StandsIn (var y.name) (th x)
     apart_now y x c d = elim (in_append y left (new_targets th ps) c) [
       | inl k ↦ elim (kept.names y (left_in y k)) [
         | inl new ↦ new_apart y.name new (λ v e. kept.apart y v (left_in y k) e) x d
@@ -300,15 +300,15 @@ module _ (scene : Scene) (ask : Ask) (b : Branch) (kept : IsKept scene ask b) (u
           (λ x y k l e. let n = is_new th ps y l in pending_not_free x y.level (left_in x k) (subst (λ i. IsFree b i y.level) (sym e) (newly_free (y.name, y.level) n.among)));
       apart = apart_now;
       names = names_now;
-      below_next = λ y l o. kept.below_next y l (open_before y l o);
+      below_next = λ y l o. kept.below_next y l (open_before_unify y l o);
       new_numbers = λ n h. let k = kept.new_numbers n h in (still_new n k.0 k.1, new_apart n k.0 k.1);
-      fresh = λ y l o. kept.fresh y l (open_before y l o);
+      fresh = λ y l o. kept.fresh y l (open_before_unify y l o);
       next_high = kept.next_high;
       levels = kept.levels;
-      up_to_m = λ y l o. kept.up_to_m y l (open_before y l o);
+      up_to_m = λ y l o. kept.up_to_m y l (open_before_unify y l o);
       bindings = λ x l e. built l (b.trees x) (leaf (var x)) (kept.bindings x l e);
       answers = λ y c. built y.level (b.trees y.name) y.term (kept.answers y c);
       unbound = unbound_now;
       least = least_now;
-      others = λ y l o never. kept.others y l (open_before y l o) (λ i. never (i.0, i.1, i.2, stands_after y l i.0 o i.3));
+      others = λ y l o never. kept.others y l (open_before_unify y l o) (λ i. never (i.0, i.1, i.2, stands_after y l i.0 o i.3));
     }

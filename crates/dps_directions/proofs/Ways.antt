@@ -94,17 +94,17 @@ offset_of system l i (leaf (ax n)) c = entry_there l 1 i system.know.entries c
 offset_of system l i (leaf (entry n)) c = entry_there l 1 i system.know.entries c
 offset_of system l i (app f ts) c = from_ways l i system.know.entries (compose ∷ []) (not_compose i) c
 
-used_entry : (system : System) (l i : ℕ) (t : Tree) → Contains (ways system l t) (use_entry i) → IsEntryUpTo system.know l i
+pub used_entry : (system : System) (l i : ℕ) (t : Tree) → Contains (ways system l t) (use_entry i) → IsEntryUpTo system.know l i
 used_entry system l i t c =
     let h = offset_of system l i t c in
     subst (IsEntryUpTo system.know l) (let e : suc h.0 ≡ i = omega (arith, h.3) in e) (h.1, h.2, h.4)
 
-slice_contains : {X : Type 0} (xs : List X) (k : ℕ) (x : X) → slice_get xs k ≡ Some x → Contains xs x
+pub slice_contains : {X : Type 0} (xs : List X) (k : ℕ) (x : X) → slice_get xs k ≡ Some x → Contains xs x
 slice_contains [] k x e = cc
 slice_contains (y ∷ xs) zero x e = let d : y ≡ x = cc in subst (λ z. Contains (y ∷ xs) z) d (in_head y xs)
 slice_contains (y ∷ xs) (suc k) x e = in_tail x y xs (slice_contains xs k x e)
 
-not_in_entry : (n i : ℕ) → ¬ StandsIn (var n) (leaf (entry i))
+pub not_in_entry : (n i : ℕ) → ¬ StandsIn (var n) (leaf (entry i))
 not_in_entry n i h = let e = in_leaf (entry i) (leaf (var n)) h in cc
 
 module _ (scene : Scene) (ask : Ask) (b : Branch) (z : Target) (rest : List Target) (kept : IsKept scene ask b) (is : b.targets ≡ z ∷ rest) (i : ℕ)
@@ -132,16 +132,16 @@ module _ (scene : Scene) (ask : Ask) (b : Branch) (z : Target) (rest : List Targ
   abbrev base : ℕ → Tree
   base = image (single z.name (leaf (entry i)))
 
-  abbrev put_now : ℕ → Tree
+  abbrev pub put_now : ℕ → Tree
   put_now = th scene ask b kept u (entry_equation scene b z i) mgu inside
 
-  equal_now : substitute put_now (numbered scene.values i (leaf (entry i))) ≡ substitute put_now z.term
+  pub equal_now : substitute put_now (numbered scene.values i (leaf (entry i))) ≡ substitute put_now z.term
   equal_now =
       sym (substitute_in_turn (image u) b.theta (numbered scene.values i (leaf (entry i))))
       ∙ (unifies_one (image u) (substitute b.theta (numbered scene.values i (leaf (entry i))), substitute b.theta z.term)).0 mgu.unifies
       ∙ substitute_in_turn (image u) b.theta z.term
 
-  distinct_all : AllPairs (λ (x v : Target). x.name ≢ v.name) (z ∷ rest)
+  pub distinct_all : AllPairs (λ (x v : Target). x.name ≢ v.name) (z ∷ rest)
   distinct_all = subst (λ ts. AllPairs (λ (x v : Target). x.name ≢ v.name) ts) is kept.distinct
 
   at_name : IsEntryNow scene put_now kept.means base z.name z.level
@@ -153,7 +153,7 @@ module _ (scene : Scene) (ask : Ask) (b : Branch) (z : Target) (rest : List Targ
         (later scene ask b kept u (entry_equation scene b z i) mgu inside (kept.means z.name) z.term (kept.means_sought z (first_in scene ask b z rest kept is))),
   )
 
-  cases : (y k : ℕ) → IsOpen b y k → IsLeft rest y k ⊎ (IsFree b y k ⊎ IsEntryNow scene put_now kept.means base y k)
+  pub cases : (y k : ℕ) → IsOpen b y k → IsLeft rest y k ⊎ (IsFree b y k ⊎ IsEntryNow scene put_now kept.means base y k)
   cases y k o = elim (open_cases scene ask b z rest kept is y k o) [
     | inl d ↦ inr (inr (subst (λ n. IsEntryNow scene put_now kept.means base n k) (sym d.0) (subst (λ n. IsEntryNow scene put_now kept.means base z.name n) (sym d.1) at_name)))
     | inr d ↦ elim d.1 [ inl h ↦ inl h | inr f ↦ inr (inl f) ]
