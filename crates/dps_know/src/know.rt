@@ -2,7 +2,9 @@
 ghost use Rattle.std.specs.Prelude.{◌≡◌, ◌↔◌, ◌∷◌, ◌++◌, [], length, map, filter_map, Some, None, IfOk, OnOk, OnErr, IsTrue};
 ghost use Rattle.dps_know.specs.declared.know.Entry.{Entry};
 ghost use Rattle.std.specs.Option.{option_map};
+ghost use Rattle.std.specs.List.{cons_option};
 ghost use Rattle.dps_terms.specs.Bindings.{image};
+ghost use Rattle.dps_terms.specs.Tree.{IsSubterm};
 ghost use Rattle.dps_terms.specs.Replace.{substitute};
 ghost use Rattle.dps_know.specs.Know.{entry_at, entry_under, know_under, IsThere, IsRecorded, with_entry_at, compositions, IsNormal, HasCompositionIn, recipe_of};
 
@@ -142,6 +144,13 @@ impl Know {
         Ok(())
     }
 
+    /// The recorded compositions, in order, with what is bound in the place of the variables.
+    pub fn compositions(&self, alloc: Global, by: &Subst) -> Result<Vec<Term>, NoMemory>
+        ensures { IfOk result (λ v. v.items ≡ map (substitute (image by.now)) (compositions self.now)) }
+    {
+        compositions_under(alloc, &self.entries, by)
+    }
+
     /// Puts what is bound in the place of the variables, in all trees.
     pub fn apply(&mut self, alloc: Global, by: &Subst) -> Result<(), NoMemory>
         ensures ok { OnOk result (self.new ≡ know_under (image by.now) self.old) }
@@ -261,4 +270,49 @@ fn trees_under(alloc: Global, trees: &[Term], by: &Subst) -> Result<Vec<Term>, N
         made.push(one)?;
     }
     Ok(made)
+}
+
+/// The recorded compositions with what is bound in the place of the variables.
+fn compositions_under(alloc: Global, entries: &[Entry], by: &Subst) -> Result<Vec<Term>, NoMemory>
+    ensures { IfOk result (λ v. v.items ≡ map (substitute (image by.now)) (filter_map (λ e. e.composition) entries.now)) }
+{
+    let mut made = Vec::new(alloc);
+    for entry in entries {
+        add_composition(alloc, &mut made, entry, by)?;
+    }
+    Ok(made)
+}
+
+fn add_composition(
+    alloc: Global,
+    made: &mut Vec<Term>,
+    entry: &Entry,
+    by: &Subst,
+) -> Result<(), NoMemory>
+    ensures { OnOk result (made.new.items ≡ made.old.items ++ map (substitute (image by.now)) (cons_option entry.now.composition [])) }
+{
+    if let Some(tree) = &entry.composition {
+        let one = tree.subst(alloc, by)?;
+        made.push(one)?;
+    }
+    Ok(())
+}
+
+/// Whether none of the recorded compositions is a subtree.
+pub fn is_normal(recorded: &[Term], tree: &Term) -> bool
+    ensures { IsTrue result ↔ IsNormal recorded.now tree.now }
+{
+    for composition in recorded {
+        if is_part(composition, tree) {
+            return false;
+        }
+    }
+    true
+}
+
+/// Whether the part is a subtree.
+fn is_part(part: &Term, tree: &Term) -> bool
+    ensures { IsTrue result ↔ IsSubterm part.now tree.now }
+{
+    is_subterm(part.whole(), tree.whole())
 }

@@ -10,4 +10,4 @@ mod subterms;
 #[cfg(test)]
 mod tests;
 
-pub use know::{Entry, Know};
+pub use know::{Entry, Know, is_normal};

@@ -88,15 +88,15 @@ ascending_once (x ∷ xs) (y ∷ ys) a b f g =
     let rest = ascending_once xs ys (pairs_tail x xs a) (pairs_tail y ys b) (tails x y xs ys a same f) (tails y x ys xs b (sym same) g) in
     λ i. same i ∷ rest i
 
-newly_once : (levels : List (ℕ × ℕ)) (before after : ℕ → Tree) (xs ys : List (ℕ × ℕ)) → AreNewlyBound levels before after xs → AreNewlyBound levels before after ys → xs ≡ ys
+pub newly_once : (levels : List (ℕ × ℕ)) (before after : ℕ → Tree) (xs ys : List (ℕ × ℕ)) → AreNewlyBound levels before after xs → AreNewlyBound levels before after ys → xs ≡ ys
 newly_once levels before after xs ys h k =
     ascending_once xs ys h.ascending k.ascending (λ p c. (k.those p).1 ((h.those p).0 c)) (λ p c. (h.those p).1 ((k.those p).0 c))
 
-same_variable : (t : Tree) (v w : ℕ) → t ≡ leaf (var v) → t ≡ leaf (var w) → v ≡ w
+pub same_variable : (t : Tree) (v w : ℕ) → t ≡ leaf (var v) → t ≡ leaf (var w) → v ≡ w
 same_variable t v w e f = let d : leaf (var v) ≡ leaf (var w) = sym e ∙ f in cc
 
 -- a unifier and what comes of it, with what was put before
-after_unifier : (levels : List (ℕ × ℕ)) (pairs : List (Tree × Tree)) (before : ℕ → Tree) (start : (ℕ → Tree) → Branch) (u v : List (ℕ × Tree)) (one two : ℕ → Tree) (xs ys : List (ℕ × ℕ))
+pub after_unifier : (levels : List (ℕ × ℕ)) (pairs : List (Tree × Tree)) (before : ℕ → Tree) (start : (ℕ → Tree) → Branch) (u v : List (ℕ × Tree)) (one two : ℕ → Tree) (xs ys : List (ℕ × ℕ))
     → IsMgu levels pairs u → IsMgu levels pairs v
     → one ≡ (λ x. substitute (image u) (before x)) → two ≡ (λ x. substitute (image v) (before x))
     → AreNewlyBound levels before one xs → AreNewlyBound levels before two ys
@@ -107,7 +107,7 @@ after_unifier levels pairs before start u v one two xs ys h k e f m n =
     let bound : xs ≡ ys = newly_once levels before two xs ys (subst (λ t. AreNewlyBound levels before t xs) same m) n in
     λ i. with_bound (bound i) (start (same i))
 
-leads_once : (scene : Scene) (b : Branch) (z : Target) (rest : List Target) {w : Way} {c d : Branch} → Leads scene b z rest w c → Leads scene b z rest w d → c ≡ d
+pub leads_once : (scene : Scene) (b : Branch) (z : Target) (rest : List Target) {w : Way} {c d : Branch} → Leads scene b z rest w c → Leads scene b z rest w d → c ≡ d
 leads_once scene b z rest (follows {w = v} e u q) (follows {w = w} f k r) = q ∙ ap (λ x. with_tree b z rest (leaf (var x))) (same_variable (substitute b.theta z.term) v w e f) ∙ sym r
 leads_once scene b z rest (follows {w = v} e u q) (lowers {w = w} f k r) = absurd (k (subst (λ x. IsVariableUpTo b.levels z.level x) (same_variable (substitute b.theta z.term) v w e f) u))
 leads_once scene b z rest (lowers {w = v} e u q) (follows {w = w} f k r) = absurd (u (subst (λ x. IsVariableUpTo b.levels z.level x) (same_variable (substitute b.theta z.term) w v f e) k))
@@ -116,14 +116,14 @@ leads_once scene b z rest (uses {i = i} {u = u} {theta = one} {bound = xs} h e m
     q ∙ after_unifier b.levels (entry_equation scene b z i) b.theta (λ t. record (with_tree b z rest (leaf (entry i))) { theta = t }) u v one two xs ys h k e f m n ∙ sym r
 leads_once scene b z rest (composes q) (composes r) = q ∙ sym r
 
-unusable : (scene : Scene) (b : Branch) (z : Target) (rest : List Target) (i : ℕ) (c : Branch) → Leads scene b z rest (use_entry i) c → IsNotUnifiable (entry_equation scene b z i) → ⊥
+pub unusable : (scene : Scene) (b : Branch) (z : Target) (rest : List Target) (i : ℕ) (c : Branch) → Leads scene b z rest (use_entry i) c → IsNotUnifiable (entry_equation scene b z i) → ⊥
 unusable scene b z rest i c (uses {u = u} h e m q) none = none (image u) h.unifies
 
-none_is_some : {ts rest : List Target} {z : Target} → ts ≡ [] → ts ≡ z ∷ rest → ⊥
+pub none_is_some : {ts rest : List Target} {z : Target} → ts ≡ [] → ts ≡ z ∷ rest → ⊥
 none_is_some {ts} {rest} {z} e f = let d : [] ≡ z ∷ rest = sym e ∙ f in cc
 
 -- the first target is one
-at_targets : (scene : Scene) (ask : Ask) (b : Branch) {z y : Target} {rest others : List Target} {k : List GeneralSolution} {m : ℕ}
+pub at_targets : (scene : Scene) (ask : Ask) (b : Branch) {z y : Target} {rest others : List Target} {k : List GeneralSolution} {m : ℕ}
     → b.targets ≡ z ∷ rest → b.targets ≡ y ∷ others
     → ListsBy scene ask b y others (ways scene.system y.level (substitute b.theta y.term)) k m
     → ListsBy scene ask b z rest (ways scene.system z.level (substitute b.theta z.term)) k m
