@@ -8,3 +8,4 @@ pub mod Rows
 pub mod Applying
 pub mod Listing
 pub mod Noting
+pub mod Growth

@@ -15,3 +15,4 @@ pub mod Tuples
 pub mod Blocks
 pub mod Terms
 pub mod RuleTerms
+pub mod Growth

@@ -5,6 +5,7 @@ ghost use Rattle.dps_syntax.specs.Parts.{parts_of};
 ghost use Rattle.dps_scopes.specs.Outcome.{Answers};
 ghost use Rattle.dps_scopes.specs.Terms.{count_inner};
 ghost use Rattle.dps_scopes.specs.Scopes.{declared_meaning};
+ghost use Rattle.dps_scopes.specs.Growth.{GrowsByTuples, HasTextsOf};
 ghost use Rattle.dps_scopes.specs.RuleTerms.{variable_number, with_variable, identifier_in_rule, first_tree, tuple_in_rule, has_more, rule_term, rule_terms};
 
 use crate::definitions::Definitions;
@@ -21,9 +22,11 @@ use dps_terms::{NoMemory, PublicName, Term};
 use std::alloc::{AllocError, Global};
 
 /// A variable, by its number. A new one gets the next number.
+#[tactic(auto, using(crate::proofs::Growth::for_texts))]
 fn variable(alloc: Global, name: &str, variables: &mut Texts) -> Result<Term, NoMemory>
     ensures number { IfOk result (λ t. t ≡ leaf (var (variable_number variables.old name.now))) }
     ensures variables { OnOk result (variables.new ≡ with_variable variables.old name.now) }
+    ensures more { HasTextsOf variables.old variables.new }
 {
     match variables.find(name) {
         Some(number) => Term::var(alloc, number as u64),
@@ -37,6 +40,7 @@ fn variable(alloc: Global, name: &str, variables: &mut Texts) -> Result<Term, No
 
 /// A term of a rule: Term = id [ "(" [ Term { "," Term } ] ")" ] | "(" Term { "," Term } ")"
 #[cycle(rule_term)]
+#[tactic(auto, using(crate::proofs::Growth::for_terms))]
 fn rule_term(
     alloc: Global,
     definitions: &Definitions,
@@ -44,7 +48,9 @@ fn rule_term(
     signature: &mut SignatureBuilder,
     variables: &mut Texts,
 ) -> Result<Term, NameRefusal>
-    ensures { Answers (λ t. t) (record { signature = signature.new; variables = variables.new }) result (rule_term definitions.now (parts_of parts.now) (record { signature = signature.old; variables = variables.old })) }
+    ensures found { Answers (λ t. t) (record { signature = signature.new; variables = variables.new }) result (rule_term definitions.now (parts_of parts.now) (record { signature = signature.old; variables = variables.old })) }
+    ensures grown { GrowsByTuples signature.old signature.new }
+    ensures more { HasTextsOf variables.old variables.new }
 {
     match parts {
         [] => Ok(Term::var(alloc, 0)?),
@@ -64,6 +70,7 @@ fn rule_term(
 
 /// An identifier of a rule, and the arguments behind it.
 #[cycle(rule_term)]
+#[tactic(auto, using(crate::proofs::Growth::for_terms))]
 fn identified(
     alloc: Global,
     definitions: &Definitions,
@@ -72,7 +79,9 @@ fn identified(
     signature: &mut SignatureBuilder,
     variables: &mut Texts,
 ) -> Result<Term, NameRefusal>
-    ensures { Answers (λ t. t) (record { signature = signature.new; variables = variables.new }) result (identifier_in_rule leaf.now (has_more (parts_of arguments.now)) (count_inner (parts_of arguments.now)) (rule_terms definitions.now (parts_of arguments.now)) (record { signature = signature.old; variables = variables.old }) (declared_meaning signature.old definitions.now leaf.now.text)) }
+    ensures found { Answers (λ t. t) (record { signature = signature.new; variables = variables.new }) result (identifier_in_rule leaf.now (has_more (parts_of arguments.now)) (count_inner (parts_of arguments.now)) (rule_terms definitions.now (parts_of arguments.now)) (record { signature = signature.old; variables = variables.old }) (declared_meaning signature.old definitions.now leaf.now.text)) }
+    ensures grown { GrowsByTuples signature.old signature.new }
+    ensures more { HasTextsOf variables.old variables.new }
 {
     let count = count_inner(arguments);
     match declared_meaning(definitions, &*signature, leaf.text.as_str()) {
@@ -104,6 +113,7 @@ fn identified(
 
 /// Brackets round one term are nothing, and round several they are a tuple.
 #[cycle(rule_term)]
+#[tactic(auto, using(crate::proofs::Growth::for_brackets))]
 fn bracketed(
     alloc: Global,
     definitions: &Definitions,
@@ -112,7 +122,9 @@ fn bracketed(
     signature: &mut SignatureBuilder,
     variables: &mut Texts,
 ) -> Result<Term, NameRefusal>
-    ensures { Answers (λ t. t) (record { signature = signature.new; variables = variables.new }) result (tuple_in_rule (count_inner (parts_of members.now)) (rule_terms definitions.now (parts_of members.now)) (record { signature = signature.old; variables = variables.old }) leaf.now) }
+    ensures found { Answers (λ t. t) (record { signature = signature.new; variables = variables.new }) result (tuple_in_rule (count_inner (parts_of members.now)) (rule_terms definitions.now (parts_of members.now)) (record { signature = signature.old; variables = variables.old }) leaf.now) }
+    ensures grown { GrowsByTuples signature.old signature.new }
+    ensures more { HasTextsOf variables.old variables.new }
 {
     let count = count_inner(members);
     if count <= 1 {
@@ -140,7 +152,7 @@ fn first_of(alloc: Global, terms: Vec<Term>) -> Result<Term, NoMemory>
 /// The terms in a row, between signs. A variable that is new is added to the variables, and the symbols of a tuple that is
 /// new to the signature. The error is the first fault of their names, or out of memory.
 #[cycle(rule_term)]
-#[tactic(auto, using(crate::proofs::Rows::for_rows))]
+#[tactic(auto, using(crate::proofs::Rows::for_rows, crate::proofs::Growth::for_rows))]
 pub fn rule_terms(
     alloc: Global,
     definitions: &Definitions,
@@ -150,6 +162,8 @@ pub fn rule_terms(
 ) -> Result<Vec<Term>, NameRefusal>
     ensures count { IfOk result (λ v. vec_len v ≡ count_inner (parts_of parts.now)) }
     ensures found { Answers (λ v. v.items) (record { signature = signature.new; variables = variables.new }) result (rule_terms definitions.now (parts_of parts.now) (record { signature = signature.old; variables = variables.old })) }
+    ensures grown { GrowsByTuples signature.old signature.new }
+    ensures more { HasTextsOf variables.old variables.new }
 {
     let mut found = Vec::new(alloc);
     for part in parts {

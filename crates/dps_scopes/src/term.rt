@@ -6,6 +6,7 @@ ghost use Rattle.dps_scopes.specs.Outcome.{Answers};
 ghost use Rattle.dps_scopes.specs.Blocks.{blocks};
 ghost use Rattle.dps_scopes.specs.Terms.{term, terms, count_inner, written, applied, name_written, identifier_as, tuple_of, identifier, the_first};
 ghost use Rattle.dps_scopes.specs.Scopes.{IsMeaningOver};
+ghost use Rattle.dps_scopes.specs.Growth.{GrowsByTuples};
 
 use crate::definitions::Definitions;
 use crate::fault::{fault_at, place_of};
@@ -90,6 +91,7 @@ fn applied(alloc: Global, sym: Sym, arguments: Vec<Written>) -> Result<Written, 
 /// The symbols of a tuple or projection that is new are added to the signature. The error is the first fault of the term's
 /// names, or out of memory.
 #[cycle(term)]
+#[tactic(auto, using(crate::proofs::Growth::for_terms))]
 pub fn term(
     alloc: Global,
     definitions: &Definitions,
@@ -97,7 +99,8 @@ pub fn term(
     parts: &[Part],
     signature: &mut SignatureBuilder,
 ) -> Result<Written, NameRefusal>
-    ensures { Answers (λ w. w) signature.new result (term definitions.now (blocks scope.now) (parts_of parts.now) signature.old) }
+    ensures found { Answers (λ w. w) signature.new result (term definitions.now (blocks scope.now) (parts_of parts.now) signature.old) }
+    ensures grown { GrowsByTuples signature.old signature.new }
 {
     match parts {
         [] => Ok(nothing_written(alloc)?),
@@ -117,6 +120,7 @@ pub fn term(
 
 /// An identifier with what it means, and the arguments behind it.
 #[cycle(term)]
+#[tactic(auto, using(crate::proofs::Growth::for_applied))]
 fn identified(
     alloc: Global,
     definitions: &Definitions,
@@ -127,7 +131,8 @@ fn identified(
     signature: &mut SignatureBuilder,
 ) -> Result<Written, NameRefusal>
     requires { IsMeaningOver signature.old meaning }
-    ensures { Answers (λ w. w) signature.new result (identifier_as leaf.now (count_inner (parts_of arguments.now)) (terms definitions.now (blocks scope.now) (parts_of arguments.now)) signature.old meaning) }
+    ensures found { Answers (λ w. w) signature.new result (identifier_as leaf.now (count_inner (parts_of arguments.now)) (terms definitions.now (blocks scope.now) (parts_of arguments.now)) signature.old meaning) }
+    ensures grown { GrowsByTuples signature.old signature.new }
 {
     let count = count_inner(arguments);
     match meaning {
@@ -166,6 +171,7 @@ fn identified(
 
 /// Brackets round one term are nothing, and round several they are a tuple.
 #[cycle(term)]
+#[tactic(auto, using(crate::proofs::Growth::for_brackets))]
 fn bracketed(
     alloc: Global,
     definitions: &Definitions,
@@ -174,7 +180,8 @@ fn bracketed(
     members: &[Part],
     signature: &mut SignatureBuilder,
 ) -> Result<Written, NameRefusal>
-    ensures { Answers (λ w. w) signature.new result (tuple_of (count_inner (parts_of members.now)) (terms definitions.now (blocks scope.now) (parts_of members.now)) signature.old leaf.now) }
+    ensures found { Answers (λ w. w) signature.new result (tuple_of (count_inner (parts_of members.now)) (terms definitions.now (blocks scope.now) (parts_of members.now)) signature.old leaf.now) }
+    ensures grown { GrowsByTuples signature.old signature.new }
 {
     let count = count_inner(members);
     if count <= 1 {
@@ -201,7 +208,7 @@ fn first_of(alloc: Global, terms: Vec<Written>) -> Result<Written, NoMemory>
 
 /// The terms in a row, between signs. The error is the first fault of their names, or out of memory.
 #[cycle(term)]
-#[tactic(auto, using(crate::proofs::Rows::for_rows))]
+#[tactic(auto, using(crate::proofs::Rows::for_rows, crate::proofs::Growth::for_rows))]
 pub fn terms(
     alloc: Global,
     definitions: &Definitions,
@@ -211,6 +218,7 @@ pub fn terms(
 ) -> Result<Vec<Written>, NameRefusal>
     ensures count { IfOk result (λ v. vec_len v ≡ count_inner (parts_of parts.now)) }
     ensures found { Answers (λ v. v.items) signature.new result (terms definitions.now (blocks scope.now) (parts_of parts.now) signature.old) }
+    ensures grown { GrowsByTuples signature.old signature.new }
 {
     let mut found = Vec::new(alloc);
     for part in parts {
@@ -224,6 +232,7 @@ pub fn terms(
 }
 
 /// An identifier alone, as in a channel's place. The error is its fault, or out of memory.
+#[tactic(auto, using(crate::proofs::Growth::for_terms))]
 pub fn identifier(
     alloc: Global,
     definitions: &Definitions,
@@ -231,7 +240,8 @@ pub fn identifier(
     leaf: &Leaf,
     signature: &mut SignatureBuilder,
 ) -> Result<Written, NameRefusal>
-    ensures { Answers (λ w. w) signature.new result (identifier definitions.now (blocks scope.now) leaf.now signature.old) }
+    ensures found { Answers (λ w. w) signature.new result (identifier definitions.now (blocks scope.now) leaf.now signature.old) }
+    ensures grown { GrowsByTuples signature.old signature.new }
 {
     let meaning = meaning_of(definitions, scope, &*signature, leaf.text.as_str())?;
     identified(alloc, definitions, scope, leaf, &[], meaning, signature)

@@ -131,8 +131,9 @@ symbol_added S s k text fresh no_name =
       symbol_texts = λ i t e. elim (at_end S.symbols s t i e) [ inl d ↦ k.symbol_texts i t d | inr d ↦ subst (λ u. IsSymbolText u.name u.kind u.arity) d.1 text ];
       name_texts = k.name_texts;
       symbols_found = λ i t e. elim (at_end S.symbols s t i e) [
-          inl d ↦ still_found (λ u. bytes_eq t.name u.name) S.symbols s i (k.symbols_found i t d)
-        | inr d ↦ subst (λ u. symbol_named (with_symbol S s) u.name ≡ Some i) d.1 (found_last (λ (u : Symbol). u.name) S.symbols s fresh ∙ ap Some (sym d.0)) ];
+        | inl d ↦ still_found (λ u. bytes_eq t.name u.name) S.symbols s i (k.symbols_found i t d)
+        | inr d ↦ subst (λ u. symbol_named (with_symbol S s) u.name ≡ Some i) d.1 (found_last (λ (u : Symbol). u.name) S.symbols s fresh ∙ ap Some (sym d.0))
+      ];
       names_found = k.names_found;
       apart = λ i n e.
           let q = λ (m : Name). bytes_eq s.name m.name in
@@ -146,8 +147,9 @@ name_added S n k text no_symbol fresh =
       name_texts = λ i m e. elim (at_end S.names n m i e) [ inl d ↦ k.name_texts i m d | inr d ↦ subst (λ u. IsIdentifier u.name) d.1 text ];
       symbols_found = k.symbols_found;
       names_found = λ i m e. elim (at_end S.names n m i e) [
-          inl d ↦ still_found (λ u. bytes_eq m.name u.name) S.names n i (k.names_found i m d)
-        | inr d ↦ subst (λ u. name_named (with_name S n) u.name ≡ Some i) d.1 (found_last (λ (u : Name). u.name) S.names n fresh ∙ ap Some (sym d.0)) ];
+        | inl d ↦ still_found (λ u. bytes_eq m.name u.name) S.names n i (k.names_found i m d)
+        | inr d ↦ subst (λ u. name_named (with_name S n) u.name ≡ Some i) d.1 (found_last (λ (u : Name). u.name) S.names n fresh ∙ ap Some (sym d.0))
+      ];
       apart = λ i m e. elim (at_end S.names n m i e) [ inl d ↦ k.apart i m d | inr d ↦ subst (λ u. symbol_named S u.name ≡ None) d.1 no_symbol ];
     }
 

@@ -32,8 +32,8 @@ invariant_of-self-2 c =
         omega (arith, count, c.self.invariant.2.1, c.from.ensures, byte_of c.args.private),
       ),
       subst (λ ns. IsSpelled (record { symbols = map symbol_of c.self.inside.symbols.entries; names = ns })) (sym names)
-      (name_added (record { symbols = map symbol_of c.self.inside.symbols.entries; names = map name_of old }) (name_of (c.in_ok-key.key, shape)) c.self.invariant.3
-      (rw (← bytes) at c.requires.spelled) (rw (← c.self.view_is, ← bytes) at c.requires.no_symbol) fresh),
+          (name_added (record { symbols = map symbol_of c.self.inside.symbols.entries; names = map name_of old }) (name_of (c.in_ok-key.key, shape)) c.self.invariant.3
+          (rw (← bytes) at c.requires.spelled) (rw (← c.self.view_is, ← bytes) at c.requires.no_symbol) fresh),
     )
 
 pub returns-clause-ok : goal.returns-clause-ok

@@ -21,8 +21,8 @@ invariant_of-self-2 c =
       c.self.invariant.1,
       c.self.invariant.2,
       subst (λ ss. IsSpelled (record { symbols = ss; names = map name_of c.self.inside.names.entries })) (sym grown)
-      (symbol_added (record { symbols = map symbol_of old; names = map name_of c.self.inside.names.entries }) (symbol_of (c.in_ok-key.key, shape)) c.self.invariant.3
-      (rw (← bytes) at c.requires.spelled) fresh (rw (← c.self.view_is, ← bytes) at c.requires.no_name)),
+          (symbol_added (record { symbols = map symbol_of old; names = map name_of c.self.inside.names.entries }) (symbol_of (c.in_ok-key.key, shape)) c.self.invariant.3
+          (rw (← bytes) at c.requires.spelled) fresh (rw (← c.self.view_is, ← bytes) at c.requires.no_name)),
     )
 
 pub returns-clause-ok : goal.returns-clause-ok

@@ -12,7 +12,7 @@ invariant_of-self c =
       c.self.invariant.1,
       c.self.invariant.2,
       subst (λ ss. IsSpelled (record { symbols = ss; names = map name_of c.self.inside.names.entries })) (sym (ap (map symbol_of) c.truncate.ensures.entries ∙ sym (take-map symbol_of c.args.count old)))
-      (symbols_cut (record { symbols = map symbol_of old; names = map name_of c.self.inside.names.entries }) c.args.count c.self.invariant.3),
+          (symbols_cut (record { symbols = map symbol_of old; names = map name_of c.self.inside.names.entries }) c.args.count c.self.invariant.3),
     )
 
 pub returns : goal.returns

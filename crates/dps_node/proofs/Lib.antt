@@ -1,0 +1,12 @@
+pub mod Once
+pub mod Thinning
+pub mod Truth
+pub mod Telling
+pub mod Computing
+pub mod Trees
+pub mod Values
+pub mod EachOnce
+pub mod Numbered
+pub mod Worded
+pub mod Consisting
+pub mod Parting

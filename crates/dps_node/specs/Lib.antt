@@ -1,0 +1,10 @@
+pub mod Node
+pub mod Numbering
+pub mod Splits
+pub mod Words
+pub mod Meaning
+pub mod Questions
+pub mod Pruning
+pub mod Truth
+pub mod Invariant
+pub mod Code

@@ -1,0 +1,10 @@
+pub mod Puts
+pub mod Newly
+pub mod Stepping
+pub mod Above
+pub mod Finished
+pub mod Options
+pub mod Turning
+pub mod Turns
+pub mod Agendas
+pub mod Advancing

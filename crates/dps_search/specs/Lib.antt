@@ -1,0 +1,8 @@
+pub mod Putting
+pub mod Code
+pub mod Going
+pub mod Numbers
+pub mod Ways
+pub mod Finishing
+pub mod Tasks
+pub mod Agenda

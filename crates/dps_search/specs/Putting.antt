@@ -1,0 +1,25 @@
+-- Substitutions put one after the other.
+use Rattle.std.specs.Prelude.{◌≡◌, ◌⊎◌, ℕ, List, Some, None}
+use Rattle.dps_terms.specs.Tree.{Tree}
+use Rattle.dps_terms.specs.Replace.{substitute}
+use Rattle.dps_terms.specs.Bindings.{bound, image}
+use Rattle.dps_unify.specs.Unifier.{IsMgu}
+use Rattle.dps_solver.specs.Search.{AreNewlyBound}
+
+-- the pair's term, with z put in
+abbrev pub under : (ℕ → Tree) → ℕ × Tree → ℕ × Tree
+under z p = (p.0, substitute z p.1)
+
+-- What is bound stays. Besides, the variable alone is bound, to what u binds it to, where it was not bound and u binds it.
+pub record IsOnceBound (u : List (ℕ × Tree)) (x : ℕ) (old new : List (ℕ × Tree)) : Type 0 where
+  pub keeps : (n : ℕ) (t : Tree) → bound old n ≡ Some t → bound new n ≡ Some t
+  pub adds : (n : ℕ) (t : Tree) → bound new n ≡ Some t → (bound old n ≡ Some t) ⊎ ((bound old n ≡ None) × (bound u n ≡ Some t))
+  pub binds : (t : Tree) → bound u x ≡ Some t → (v : Tree) × (bound new x ≡ Some v)
+
+-- The pairs have a most general unifier. With it put besides, theta becomes after, and these variables with a level are
+-- newly bound.
+pub record IsUnifiedBy (levels : List (ℕ × ℕ)) (pairs : List (Tree × Tree)) (theta after : ℕ → Tree) (bound : List (ℕ × ℕ)) : Type 0 where
+  pub unifier : List (ℕ × Tree)
+  pub is : IsMgu levels pairs unifier
+  pub becomes : after ≡ (λ x. substitute (image unifier) (theta x))
+  pub newly : AreNewlyBound levels theta after bound

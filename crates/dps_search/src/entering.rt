@@ -1,0 +1,155 @@
+//! The next branch where an entry is the tree of the first target.
+ghost use Rattle.std.specs.Prelude.{◌≡◌, ◌<◌, ◌∷◌, List, length, drop, unwrap_or, IfOk};
+ghost use Rattle.std.specs.Option.{option_copied};
+ghost use Rattle.dps_terms.specs.Tree.{entry as entry_leaf, leaf, Tree};
+ghost use Rattle.dps_terms.specs.Bindings.{image};
+ghost use Rattle.dps_terms.specs.Replace.{substitute, numbered};
+ghost use Rattle.dps_solver.specs.declared.scene.Target.{Target};
+ghost use Rattle.dps_solver.specs.Search.{entry_equation, with_bound};
+ghost use Rattle.dps_search.specs.Code.{scene_of, branch_of};
+ghost use Rattle.dps_search.specs.Going.{entered};
+ghost use Rattle.dps_search.specs.Tasks.{IsEntered};
+
+use crate::bindings::{Bindings, put};
+use crate::branch::{Branch, add_bound};
+use crate::scene::Scene;
+use crate::unified::{Unified, unify};
+use dps_solver::Target;
+use dps_terms::{NoMemory, Term};
+use dps_unify::VarOrder;
+use std::alloc::Global;
+
+/// The branch in which the entry is the tree of the first target. `None` comes exactly where the entry's value and the target's
+/// term can't be made equal.
+pub(crate) fn enter(
+    alloc: Global,
+    scene: &Scene,
+    branch: &Branch,
+    entry: u64,
+) -> Result<Option<Branch>, NoMemory>
+    requires { 0 < length branch.now.targets.items }
+    ensures { IfOk result (λ o. (z : Target) (rest : List Target) → branch.now.targets.items ≡ z ∷ rest → IsEntered (scene_of scene.now) (branch_of branch.now) z rest entry o) }
+{
+    let target = &branch.targets[0];
+    let pairs = entry_pair(alloc, scene, branch, target, entry)?;
+    match unify(alloc, &branch.order, &branch.theta, &pairs)? {
+        Some(unified) => {
+            let next = with_entry(alloc, branch, target, entry, unified)?;
+            Ok(Some(next))
+        }
+        None => Ok(None),
+    }
+}
+
+/// The entry's value and the target's term, with what is put for variables.
+fn entry_pair(
+    alloc: Global,
+    scene: &Scene,
+    branch: &Branch,
+    target: &Target,
+    entry: u64,
+) -> Result<Vec<(Term, Term)>, NoMemory>
+    ensures { IfOk result (λ v. v.items ≡ entry_equation (scene_of scene.now) (branch_of branch.now) target.now entry) }
+{
+    let value = entry_value(alloc, &scene.values, &branch.theta, entry)?;
+    let term = target.term.whole().replaced(alloc, &branch.theta)?;
+    let mut pairs = Vec::with_capacity(alloc, 1)?;
+    pairs.push((value, term))?;
+    Ok(pairs)
+}
+
+/// The value of the entry with this number, with what is put for variables.
+fn entry_value(
+    alloc: Global,
+    values: &[Term],
+    theta: &Bindings,
+    entry: u64,
+) -> Result<Term, NoMemory>
+    ensures { IfOk result (λ t. t ≡ substitute (image theta.now) (numbered values.now entry (leaf (entry_leaf entry)))) }
+{
+    match value_at(values, entry) {
+        Some(value) => value.whole().replaced(alloc, theta),
+        None => Term::entry(alloc, entry),
+    }
+}
+
+/// The value with this number, counted from 1.
+fn value_at(values: &[Term], number: u64) -> Option<&Term>
+    ensures { (other : Tree) → numbered values.now number other ≡ unwrap_or (option_copied result) other }
+{
+    if number == 0 {
+        return None;
+    }
+    values.get(number as usize - 1)
+}
+
+/// The branch with the entry as the tree of the first target, which this is, and with what the unifier puts.
+fn with_entry(
+    alloc: Global,
+    branch: &Branch,
+    target: &Target,
+    entry: u64,
+    unified: Unified,
+) -> Result<Branch, NoMemory>
+    ensures { IfOk result (λ c. branch_of c ≡ with_bound unified.bound.items (entered (branch_of branch.now) target.now.name (drop 1 branch.now.targets.items) entry (image unified.theta))) }
+{
+    let Unified { theta, bound } = unified;
+    let mut next = enter_with(alloc, branch, target.name, entry, theta)?;
+    add_bound(alloc, &mut next, &bound)?;
+    Ok(next)
+}
+
+/// The same branch without its first target, which has this name, with the entry as its tree.
+fn enter_with(
+    alloc: Global,
+    branch: &Branch,
+    name: u64,
+    entry: u64,
+    theta: Bindings,
+) -> Result<Branch, NoMemory>
+    ensures { IfOk result (λ c. branch_of c ≡ entered (branch_of branch.now) name (drop 1 branch.now.targets.items) entry (image theta)) }
+{
+    let tree = Term::entry(alloc, entry)?;
+    let trees = put(alloc, &branch.trees, name, tree)?;
+    let targets = copies(alloc, behind_first(&branch.targets))?;
+    let levels = Vec::from_slice(alloc, &branch.order.levels)?;
+    Ok(Branch {
+        theta,
+        trees,
+        targets,
+        order: VarOrder { levels },
+        next: branch.next,
+    })
+}
+
+/// All targets but the first.
+fn behind_first(targets: &[Target]) -> &[Target]
+    ensures { result.now ≡ drop 1 targets.now }
+{
+    match targets.split_first() {
+        Some((_, rest)) => rest,
+        None => targets,
+    }
+}
+
+pub(crate) fn copies(alloc: Global, targets: &[Target]) -> Result<Vec<Target>, NoMemory>
+    ensures { IfOk result (λ v. v.items ≡ targets.now) }
+{
+    let mut made = Vec::with_capacity(alloc, targets.len())?;
+    for target in targets {
+        let copy = copy_of(alloc, target)?;
+        made.push(copy)?;
+    }
+    Ok(made)
+}
+
+fn copy_of(alloc: Global, target: &Target) -> Result<Target, NoMemory>
+    ensures { IfOk result (λ z. z ≡ target.now) }
+{
+    let term = target.term.copy(alloc)?;
+    Ok(Target {
+        name: target.name,
+        level: target.level,
+        term,
+    })
+}
