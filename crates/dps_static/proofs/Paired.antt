@@ -36,11 +36,11 @@ taken_further F pairs p ts n t e there m =
     map-append F pairs (p ∷ []) ∙ (λ j. e j ++ (m ∙ sym at) j ∷ []) ∙ sym (take_more ts n t h)
 
 pub pairs_next :
-    (recipes values : List Tree) (pairs new : List (Tree × Tree)) (n : ℕ) (r v : Tree) → n < length recipes → n < length values → r ≡ get_or recipes n r
-    → v ≡ get_or values n v → new ≡ pairs ++ (r, v) ∷ [] → ArePairsFirst recipes values pairs n → ArePairsFirst recipes values new (n + 1)
-pairs_next recipes values pairs new n r v h k a b is first = subst (λ ps. ArePairsFirst recipes values ps (n + 1)) (sym is) (record {
+    (recipes values : List Tree) (pairs new : List (Tree × Tree)) (n : ℕ) (r v : Tree) → n < length recipes → r ≡ get_or recipes n r
+    → slice_get values n ≡ Some v → new ≡ pairs ++ (r, v) ∷ [] → ArePairsFirst recipes values pairs n → ArePairsFirst recipes values new (n + 1)
+pairs_next recipes values pairs new n r v h a there is first = subst (λ ps. ArePairsFirst recipes values ps (n + 1)) (sym is) (record {
   recipes_are = taken_further one_of pairs (r, v) recipes n r first.recipes_are (slice_get-get_or recipes n r h ∙ ap Some (sym a)) refl;
-  values_are = taken_further other_of pairs (r, v) values n v first.values_are (slice_get-get_or values n v k ∙ ap Some (sym b)) refl;
+  values_are = taken_further other_of pairs (r, v) values n v first.values_are there refl;
 })
 
 pub pairs_all : (recipes values : List Tree) (pairs : List (Tree × Tree)) (n : ℕ) → length recipes ≤ n → length values ≤ n → ArePairsFirst recipes values pairs n → ArePairsOf recipes values pairs

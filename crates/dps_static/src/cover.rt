@@ -5,7 +5,8 @@ ghost use Rattle.dps_terms.specs.Seen.{seen};
 ghost use Rattle.dps_static.specs.Binding.{AreMatches, BindsParts, HasFreeVariables, IsRooted};
 ghost use Rattle.dps_static.specs.Cuts.{Covers, CoversArguments, CoversEntries};
 
-use dps_terms::{NoMemory, Subst, Term, TermRef, TermView};
+use crate::kept::Kept;
+use dps_terms::{NoMemory, Subst, TermRef, TermView};
 use dps_unify::extend_match;
 use std::alloc::Global;
 
@@ -44,7 +45,7 @@ fn matches(
 /// The substitutions extended so that the pattern becomes one of the kept trees at the places `from..to`, in all ways.
 pub(crate) fn entries(
     alloc: Global,
-    kept: &[Term],
+    kept: &Kept,
     from: usize,
     to: usize,
     free: &[u64],
@@ -60,7 +61,7 @@ pub(crate) fn entries(
 {
     let mut found = Vec::new(alloc);
     for place in from..to {
-        let mut here = matches(alloc, free, pattern, start, kept[place].whole())?;
+        let mut here = matches(alloc, free, pattern, start, kept.get(place))?;
         found.append(&mut here)?;
     }
     Ok(found)
@@ -71,7 +72,7 @@ pub(crate) fn entries(
 #[cycle(cover)]
 fn cover(
     alloc: Global,
-    kept: &[Term],
+    kept: &Kept,
     to: usize,
     free: &[u64],
     pattern: TermRef<'_>,
@@ -99,7 +100,7 @@ fn cover(
 #[cycle(cover)]
 pub(crate) fn cover_arguments(
     alloc: Global,
-    kept: &[Term],
+    kept: &Kept,
     to: usize,
     free: &[u64],
     pattern: TermRef<'_>,

@@ -27,7 +27,7 @@ fn repeated(
     requires there { index < length kept.now }
     ensures { IfOk result (λ o. MatchOption o (RepeatsAt kept.now counterparts.now index) (IsDifference kept.now counterparts.now)) }
 {
-    match kept.place(kept.trees()[index].whole()) {
+    match kept.place(kept.get(index)) {
         Some(first) => {
             if counterparts[first].equals(&counterparts[index]) {
                 return Ok(None);
@@ -52,7 +52,7 @@ fn recomposed(
     requires there { index < length kept.now }
     ensures { IfOk result (λ o. MatchOption o (ComposesAlikeAt kept.now counterparts.now index) (IsDifference kept.now counterparts.now)) }
 {
-    match composed(alloc, kept, kept.trees()[index].whole())? {
+    match composed(alloc, kept, kept.get(index))? {
         Some(other) => {
             if builds(counterparts, other.whole(), counterparts[index].whole()) {
                 return Ok(None);
@@ -73,7 +73,7 @@ pub(crate) fn difference(
     requires { length kept.now ≡ length counterparts.now }
     ensures { IfOk result (λ o. MatchOption o (Follows kept.now counterparts.now) (IsDifference kept.now counterparts.now)) }
 {
-    for index in 0..kept.trees().len() {
+    for index in 0..kept.len() {
         if let Some(ways) = repeated(alloc, kept, counterparts, index)? {
             return Ok(Some(ways));
         }

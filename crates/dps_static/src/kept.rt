@@ -1,18 +1,19 @@
 //! Lists of kept trees, in which the place of a tree is found without a walk.
-ghost use Rattle.std.specs.Prelude.{◌≡◌, ◌+◌, ◌<◌, ◌^◌, ◌++◌, ◌∷◌, [], ℕ, IfOk, IfSome, OnOk, OnErr, MatchOption, Some, slice_get};
+ghost use Rattle.std.specs.Prelude.{◌≡◌, ◌+◌, ◌<◌, ◌^◌, ◌++◌, ◌∷◌, [], ℕ, IfOk, IfSome, OnOk, OnErr, MatchOption, Some, length, slice_get};
 ghost use Rattle.dps_terms.specs.Seen.{seen};
 ghost use Rattle.dps_static.specs.Ways.{IsFirst, IsNotKept};
 ghost use Rattle.dps_static.specs.Places.{IsPlaced};
 
-use dps_terms::{NoMemory, Term, TermRef};
+use dps_terms::{NoMemory, Term, TermList, TermRef};
 use indexmap::IndexMap;
 use std::alloc::{AllocError, Global};
 use std::marker::Model;
 
-/// Kept trees, in order, with a place for the digest of each of them: no kept tree with this digest stands before it.
+/// Kept trees, in order and in one buffer, with a place for the digest of each of them: no kept tree with this digest
+/// stands before it.
 #[derive(Drop)]
 pub(crate) struct Kept {
-    trees: Vec<Term>,
+    trees: TermList,
     places: IndexMap<u64, usize>,
 }
 
@@ -27,9 +28,9 @@ impl Model for Kept {
 
     ghost coded = { coded_list tree_code };
 
-    ghost view = { λ a. a.trees.items };
+    ghost view = { λ a. a.trees };
 
-    ghost invariant = { λ a. ArePlacesOf a.trees.items a.places.entries };
+    ghost invariant = { λ a. ArePlacesOf a.trees a.places.entries };
 }
 
 impl Kept {
@@ -38,25 +39,33 @@ impl Kept {
         ensures { result ≡ [] }
     {
         Kept {
-            trees: Vec::new(alloc),
+            trees: TermList::empty(alloc),
             places: IndexMap::new(alloc),
         }
     }
 
     /// Keeps one more tree.
-    pub(crate) fn push(&mut self, tree: Term) -> Result<(), NoMemory>
-        ensures { OnOk result (self.new ≡ self.old ++ tree ∷ []) }
+    pub(crate) fn push(&mut self, tree: TermRef<'_>) -> Result<(), NoMemory>
+        ensures { OnOk result (self.new ≡ self.old ++ seen tree.entry ∷ []) }
     {
-        put_place(&mut self.places, tree.whole().digest(), self.trees.len())?;
+        put_place(&mut self.places, tree.digest(), self.trees.len())?;
         self.trees.push(tree)?;
         Ok(())
     }
 
-    /// The kept trees.
-    pub(crate) fn trees(&self) -> &[Term]
-        ensures { result.now ≡ self.now }
+    /// How many trees are kept.
+    pub(crate) fn len(&self) -> usize
+        ensures { result ≡ length self.now }
     {
-        self.trees.as_slice()
+        self.trees.len()
+    }
+
+    /// The kept tree at a place, counted from 0. There has to be one.
+    pub(crate) fn get(&self, place: usize) -> TermRef<'_>
+        requires { place < length self.now }
+        ensures { slice_get self.now place ≡ Some (seen result) }
+    {
+        self.trees.get(place)
     }
 
     /// The first place, counted from 0, at which the tree is kept, and `None` exactly where it is not kept.
@@ -86,13 +95,13 @@ fn put_place(places: &mut IndexMap<u64, usize>, digest: u64, place: usize) -> Re
 }
 
 /// The first place of the tree from a place on, before which it does not stand.
-fn place_from(trees: &[Term], start: usize, tree: TermRef<'_>) -> Option<usize>
+fn place_from(trees: &TermList, start: usize, tree: TermRef<'_>) -> Option<usize>
     requires { (k : ℕ) → k < start → ¬ (slice_get trees.now k ≡ Some (seen tree)) }
     ensures first { MatchOption result (IsNotKept trees.now (seen tree.entry)) (IsFirst trees.now (seen tree.entry)) }
     ensures small { IfSome result (λ place. place + 1 < 2 ^ 64) }
 {
     for place in start..trees.len() {
-        if trees[place].whole().equals(tree) {
+        if trees.get(place).equals(tree) {
             return Some(place);
         }
     }
@@ -105,8 +114,7 @@ pub(crate) fn kept_of(alloc: Global, trees: &[Term]) -> Result<Kept, NoMemory>
 {
     let mut kept = Kept::empty(alloc);
     for tree in trees {
-        let copy = tree.copy(alloc)?;
-        kept.push(copy)?;
+        kept.push(tree.whole())?;
     }
     Ok(kept)
 }

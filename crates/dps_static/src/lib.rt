@@ -100,7 +100,7 @@ pub fn saturate(alloc: Global, theory: &Theory, frame: &Frame) -> Result<Saturat
 {
     is_lawful(theory);
     let knowledge = saturated(alloc, theory, &frame.messages)?;
-    let pairs = paired(alloc, &knowledge.recipes, knowledge.kept.trees())?;
+    let pairs = paired(alloc, &knowledge.recipes, &knowledge.kept)?;
     Ok(Saturated { pairs })
 }
 

@@ -10,13 +10,14 @@ ghost use Rattle.dps_static.specs.Binding.{BindsParts, HasFreeVariables};
 ghost use Rattle.dps_static.specs.Cuts.{CoversAround, CoversNew, CoversNewArguments, CoversNewLeft};
 
 use crate::cover::{cover_arguments, entries};
+use crate::kept::Kept;
 use dps_terms::{NoMemory, Subst, Term, TermRef, TermView};
 use std::alloc::Global;
 
 /// The substitutions extended so that they settle the arguments of the pattern beside the pivot.
 fn cover_around(
     alloc: Global,
-    kept: &[Term],
+    kept: &Kept,
     asked: usize,
     free: &[u64],
     pattern: TermRef<'_>,
@@ -53,7 +54,7 @@ fn cover_around(
 #[cycle(pivot)]
 fn with_new(
     alloc: Global,
-    kept: &[Term],
+    kept: &Kept,
     asked: usize,
     free: &[u64],
     pattern: TermRef<'_>,
@@ -80,7 +81,7 @@ fn with_new(
 #[cycle(pivot)]
 fn with_new_below(
     alloc: Global,
-    kept: &[Term],
+    kept: &Kept,
     asked: usize,
     free: &[u64],
     pattern: TermRef<'_>,
@@ -105,7 +106,7 @@ fn with_new_below(
 /// trees, and of which one settles the arguments of the left side wherever these are built and not of old trees alone.
 pub(crate) fn new_ways(
     alloc: Global,
-    kept: &[Term],
+    kept: &Kept,
     asked: usize,
     left: &Term,
 ) -> Result<Vec<Subst>, NoMemory>

@@ -55,8 +55,8 @@ fn keep(alloc: Global, knowledge: &mut Knowledge, new: NewTree) -> Result<(), No
     ensures uses { OnOk result (knowledge.new.uses.items ≡ knowledge.old.uses.items ++ record { left = new.left; right = leaf (entry (suc (length knowledge.old.kept))) } ∷ []) }
 {
     knowledge.recipes.push(new.recipe)?;
-    knowledge.kept.push(new.value)?;
-    let right = Term::entry(alloc, knowledge.kept.trees().len() as u64)?;
+    knowledge.kept.push(new.value.whole())?;
+    let right = Term::entry(alloc, knowledge.kept.len() as u64)?;
     knowledge.uses.push(RuleUse {
         left: new.left,
         right,
@@ -80,9 +80,9 @@ fn use_rule(
     ensures more { IfOk result (λ more. GrowsOrIsUsedUp theory.now place more knowledge.old.recipes.items knowledge.old.kept knowledge.new.recipes.items knowledge.new.kept knowledge.new.uses.items) }
 {
     let rule = &theory.rules()[place];
-    let mut ways = new_ways(alloc, knowledge.kept.trees(), asked.trees, &rule.left)?;
+    let mut ways = new_ways(alloc, &knowledge.kept, asked.trees, &rule.left)?;
     ways.append(&mut asked.waiting)?;
-    asked.trees = knowledge.kept.trees().len();
+    asked.trees = knowledge.kept.len();
     let mut more = false;
     while let Some(by) = ways.pop() {
         match ask(alloc, &knowledge.recipes, &knowledge.kept, rule, &by)? {

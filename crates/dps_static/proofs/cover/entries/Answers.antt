@@ -1,5 +1,4 @@
-use Rattle.std.proofs.Common.{◌≡◌, ◌<◌, length, slice_get, Some, arith, ap, sym, ◌∙◌, subst, below_more}
-use Rattle.std.proofs.lemmas.Option.{slice_get-get_or, get_or_from_slice_get}
+use Rattle.std.proofs.Common.{◌≡◌, slice_get, Some, arith, subst, below_more}
 use Rattle.std.proofs.lemmas.List.Elements.{All-append}
 use Rattle.dps_terms.specs.Seen.{seen}
 use Rattle.dps_static.specs.Binding.{AreMatches, BindsParts}
@@ -13,17 +12,16 @@ loop-place-preserved c =
     let kept = c.args.kept.now in
     let start = c.args.start.now in
     let place = c.loop-place.place in
-    let tree = c.index-kept-place.result in
+    let tree = seen c.get.result in
     let found = c.loop-place.found.items in
     let here = c.in_ok-here.here.items in
-    let inside : place < length kept = omega (arith, c.requires.within, c.loop-place-test.true) in
-    let there : slice_get kept place ≡ Some tree = slice_get-get_or kept place tree inside ∙ ap Some (sym c.index-kept-place.is) in
-    let matches : AreMatches free p tree start here = subst (λ t. AreMatches free p t start here) c.whole.ensures c.in_ok-here.ensures in
+    let there : slice_get kept place ≡ Some tree = c.get.ensures in
+    let matches : AreMatches free p tree start here = c.in_ok-here.ensures in
     rw c.in_ok-append.ensures.items (record {
       listed = below_more _ _
           (λ k h l t d s m. listed_left free p found here s t (c.loop-place.invariant.listed k h l t d s m))
           (λ l t d s m.
-          (let same : tree ≡ t = c.index-kept-place.is ∙ get_or_from_slice_get kept place t tree d in
+          (let same : tree ≡ t = cc (there, d) in
           let now : AreMatches free p t start here = subst (λ u. AreMatches free p u start here) same matches in
           listed_right free p found here s t (now.all s m)));
       parts = All-append (BindsParts kept free) found here c.loop-place.invariant.parts (matches_bind kept free p c.requires.free start here place tree there c.requires.parts matches);

@@ -4,5 +4,5 @@ use Rattle.dps_static.proofs.follow.difference.Goals as goal
 
 pub returns : goal.returns
 returns c =
-    let e : c.loop-index.index ≡ length c.args.kept.now = omega (arith, ap length c.trees-index-end.ensures) in
+    let e : c.loop-index.index ≡ length c.args.kept.now = omega (arith, c.len-index-end.ensures, c.loop-index.auto.index-end, c.loop-index-test.false) in
     follows c.args.kept.now c.args.counterparts.now c.requires (subst (PassBefore c.args.kept.now c.args.counterparts.now) e c.loop-index.invariant)

@@ -25,7 +25,7 @@ with_new-returns-in_ok-append-in-App t c =
           c.in_ok-below-in-App.below.items
           c.in-App.field-0
           c.in-App.ensures
-          c.in_ok-found-in-App.ensures.covers
+          (rw c.len.ensures at c.in_ok-found-in-App.ensures.covers)
           c.in_ok-below-in-App.ensures.covers;
       parts = All-append (BindsParts kept c.args.free.now) c.in_ok-found-in-App.found.items c.in_ok-below-in-App.below.items c.in_ok-found-in-App.ensures.parts c.in_ok-below-in-App.ensures.parts;
     })

@@ -11,7 +11,7 @@ returns-clause-covers c =
     let kept = c.args.kept.now in
     let ps = arguments (seen c.args.pattern) in
     covers_around kept c.args.asked ps c.args.pivot c.args.start.items c.in_ok-before.before.items c.in_ok-whole.whole.items c.in_ok-before.ensures.covers
-    (subst (λ n. CoversArguments kept (length kept) ps (c.args.pivot + 1) n c.in_ok-before.before.items c.in_ok-whole.whole.items) c.arity-arity.ensures.number c.in_ok-whole.ensures.covers)
+    (subst (λ n. CoversArguments kept (length kept) ps (c.args.pivot + 1) n c.in_ok-before.before.items c.in_ok-whole.whole.items) c.arity-arity.ensures.number (rw c.len.ensures at c.in_ok-whole.ensures.covers))
 
 pub returns-then-is_empty-clause-covers : goal.returns-then-is_empty-clause-covers
 returns-then-is_empty-clause-covers c =

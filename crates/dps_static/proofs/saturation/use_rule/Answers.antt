@@ -24,7 +24,7 @@ new_ways-requires c =
     let is : rule ≡ get_or rules c.args.place rule = c.index-rules-place.is ∙ ap (λ xs. get_or xs c.args.place rule) c.rules.ensures.list in
     let there : slice_get rules c.args.place ≡ Some rule = slice_get-get_or rules c.args.place rule c.requires.place ∙ ap Some (sym is) in
     let a : IsAsked c.args.knowledge.now.kept c.args.knowledge.now.uses.items rule c.args.asked.now = c.requires.asked rule there in
-    subst (λ ts. c.args.asked.now.trees ≤ length ts) (sym c.trees.ensures) a.within
+    a.within
 
 pub loop-by-init : goal.loop-by-init
 loop-by-init c =
@@ -37,11 +37,11 @@ loop-by-init c =
     let there : slice_get rules c.args.place ≡ Some rule = slice_get-get_or rules c.args.place rule c.requires.place ∙ ap Some (sym is) in
     let left_is : c.rule.inside.left ≡ rule.left = ap (λ (r : Rule). r.left) c.rule.view_is in
     let covers : CoversNewLeft kept asked.trees rule.left new =
-    subst (λ (t : Tree). CoversNewLeft kept asked.trees t new) left_is (subst (λ ts. CoversNewLeft ts asked.trees c.rule.inside.left new) c.trees.ensures c.in_ok-ways.ensures.covers) in
+    subst (λ (t : Tree). CoversNewLeft kept asked.trees t new) left_is c.in_ok-ways.ensures.covers in
     let parts : All (BindsParts kept (variables rule.left)) new =
-    subst (λ (t : Tree). All (BindsParts kept (variables t)) new) left_is (subst (λ ts. All (BindsParts ts (variables c.rule.inside.left)) new) c.trees.ensures c.in_ok-ways.ensures.parts) in
+    subst (λ (t : Tree). All (BindsParts kept (variables t)) new) left_is c.in_ok-ways.ensures.parts in
     rw (c.in_ok-append.ensures.items, c.in_ok-append.ensures.other_items)
-    (asking_first c.args.theory.now rule (length c.trees-2.result.now) c.args.knowledge.now.recipes.items kept c.args.knowledge.now.uses.items asked new (ap length c.trees-2.ensures)
+    (asking_first c.args.theory.now rule c.len-asked.result c.args.knowledge.now.recipes.items kept c.args.knowledge.now.uses.items asked new c.len-asked.ensures
     (c.requires.asked rule there) covers parts)
 
 -- the way waits

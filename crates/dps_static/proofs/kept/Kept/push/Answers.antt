@@ -1,4 +1,5 @@
 use Rattle.std.proofs.Common.{◌≡◌, length, arith, sym, ap, ◌∙◌, subst}
+use Rattle.dps_terms.specs.Seen.{seen}
 use Rattle.dps_terms.specs.Digest.{digest}
 use Rattle.dps_static.specs.Places.{ArePlacesOf, IsPlaced}
 use Rattle.dps_static.proofs.Placing.{places_stay, places_push}
@@ -6,20 +7,20 @@ use Rattle.dps_static.proofs.kept.Kept.push.Goals as goal
 
 pub invariant_of-self-in_err-push : goal.invariant_of-self-in_err-push
 invariant_of-self-in_err-push c =
-    let kept = c.self.inside.trees.items in
+    let kept = c.self.inside.trees in
     let places = c.self.inside.places.entries in
     let later = c.put_place.new.places.entries in
-    let placed : IsPlaced places (digest c.args.tree) (length kept) later =
-    subst (λ d. IsPlaced places d (length kept) later) (c.digest.ensures ∙ ap digest c.whole.ensures)
-    (subst (λ l. IsPlaced places c.digest.result l later) (let e : c.len.result ≡ length kept = omega (arith, c.len.ensures, c.self.inside.trees.ok.0) in e) c.in_ok-put_place.ensures.ok) in
-    subst (λ ts. ArePlacesOf ts later) (sym c.in_err-push.ensures.items) (places_stay kept places later (digest c.args.tree) c.self.invariant placed)
+    let placed : IsPlaced places (digest (seen c.args.tree)) (length kept) later =
+    subst (λ d. IsPlaced places d (length kept) later) c.digest.ensures
+    (subst (λ l. IsPlaced places c.digest.result l later) c.len.ensures c.in_ok-put_place.ensures.ok) in
+    subst (λ ts. ArePlacesOf ts later) (sym c.in_err-push.ensures.err) (places_stay kept places later (digest (seen c.args.tree)) c.self.invariant placed)
 
 pub invariant_of-self-2 : goal.invariant_of-self-2
 invariant_of-self-2 c =
-    let kept = c.self.inside.trees.items in
+    let kept = c.self.inside.trees in
     let places = c.self.inside.places.entries in
     let later = c.put_place.new.places.entries in
-    let placed : IsPlaced places (digest c.args.tree) (length kept) later =
-    subst (λ d. IsPlaced places d (length kept) later) (c.digest.ensures ∙ ap digest c.whole.ensures)
-    (subst (λ l. IsPlaced places c.digest.result l later) (let e : c.len.result ≡ length kept = omega (arith, c.len.ensures, c.self.inside.trees.ok.0) in e) c.in_ok-put_place.ensures.ok) in
-    subst (λ ts. ArePlacesOf ts later) (sym c.in_ok-push.ensures.items) (places_push kept places later c.args.tree c.self.invariant placed)
+    let placed : IsPlaced places (digest (seen c.args.tree)) (length kept) later =
+    subst (λ d. IsPlaced places d (length kept) later) c.digest.ensures
+    (subst (λ l. IsPlaced places c.digest.result l later) c.len.ensures c.in_ok-put_place.ensures.ok) in
+    subst (λ ts. ArePlacesOf ts later) (sym c.in_ok-push.ensures.ok) (places_push kept places later (seen c.args.tree) c.self.invariant placed)
