@@ -1,0 +1,24 @@
+//! Traces, and their texts in both formats.
+//!
+//! `specs/Text` has the texts, by concatenation; `specs/Written` which labels may stand in a trace; `specs/Faults` which line
+//! is the first that is wrong. Format 2 names the model of communication, and is what is printed; format 1 is read too.
+#![tactic(auto)]
+
+mod fault;
+mod model;
+mod printing;
+mod reading;
+mod trace;
+
+pub use fault::{TraceKind, TraceRefusal};
+pub use model::ModelName;
+pub use printing::{print_trace, write_label};
+pub use reading::read_trace;
+pub use trace::Trace;
+
+/// Traces may be handed to other threads and be shared with them.
+pub fn are_shared() {
+    is_shared::<Trace>();
+}
+
+fn is_shared<T: Send + Sync>() {}
