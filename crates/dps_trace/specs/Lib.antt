@@ -5,3 +5,6 @@ pub mod Traces
 pub mod Faults
 pub mod Stored
 pub mod Values
+pub mod Scanning
+pub mod Told
+pub mod StoredReading

@@ -2,6 +2,8 @@
 ghost use Rattle.std.specs.Prelude.{◌≡◌};
 ghost use Rattle.dps_trace.specs.Values.{kind_text};
 
+use std::alloc::AllocError;
+
 /// What is wrong with a line.
 #[derive(Clone, Copy, Debug, PartialEq, Eq)]
 pub enum TraceKind {
@@ -42,4 +44,14 @@ pub enum TraceRefusal {
     Fault { line: u32, kind: TraceKind },
     /// There was no memory.
     Memory,
+}
+
+impl From<AllocError> for TraceRefusal {
+    ghost use Rattle.dps_trace.specs.declared.fault.TraceRefusal.TheVariants.{Memory};
+
+    ghost from_gives = { λ error refusal. refusal ≡ Memory };
+
+    fn from(_error: AllocError) -> TraceRefusal {
+        TraceRefusal::Memory
+    }
 }

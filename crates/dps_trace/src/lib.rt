@@ -5,10 +5,14 @@
 #![tactic(auto)]
 
 mod fault;
+mod label;
 mod model;
 mod printing;
 mod reading;
+mod recipe;
 mod trace;
+mod turn;
+mod words;
 
 pub use fault::{TraceKind, TraceRefusal};
 pub use model::ModelName;

@@ -1,0 +1,27 @@
+//! Reports, and their texts in both formats.
+//!
+//! `specs/Reports` has the texts, by concatenation, and `specs/Outcomes` which outcomes have one. Format 2 names the model of
+//! communication, and is what is printed; format 1 is read too.
+#![tactic(auto)]
+
+mod fields;
+mod format;
+mod outcome;
+mod printing;
+mod reading;
+#[cfg(test)]
+mod tests;
+mod parts;
+
+pub use format::Format;
+pub use outcome::{Outcome, StopName};
+pub use printing::{MEMORY_TEXT, ReportText, ShortText, text};
+pub use reading::read_report;
+pub use parts::{Text, Texts};
+
+/// Outcomes may be handed to other threads and be shared with them.
+pub fn are_shared() {
+    is_shared::<Outcome>();
+}
+
+fn is_shared<T: Send + Sync>() {}
