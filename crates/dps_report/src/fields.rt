@@ -1,26 +1,36 @@
 //! Lines of reports: a word, and what is said of it.
 use crate::Text;
-use dps_trace::{first_line, numeral};
+use dps_trace::{cut, numeral};
 use std::alloc::{AllocError, Global};
 
 /// What is said on the first line behind the word, which ends with a colon and a blank, and what comes behind the line.
 pub(crate) fn read_field<'a>(bytes: &'a [u8], word: &[u8]) -> Option<(&'a [u8], &'a [u8])> {
-    let rest = bytes.strip_prefix(word)?;
-    first_line(rest)
+    match bytes.strip_prefix(word) {
+        Some(rest) => cut(b'\n', rest),
+        None => None,
+    }
 }
 
 /// The same where a number below 2^64 is said.
 pub(crate) fn read_number<'a>(bytes: &'a [u8], word: &[u8]) -> Option<(u64, &'a [u8])> {
-    let (digits, rest) = read_field(bytes, word)?;
-    let number = numeral(digits)?;
-    Some((number, rest))
+    let Some((digits, rest)) = read_field(bytes, word) else {
+        return None;
+    };
+    match numeral(digits) {
+        Some(number) => Some((number, rest)),
+        None => None,
+    }
 }
 
 /// The same where a number below 2^32 is said.
 pub(crate) fn read_short<'a>(bytes: &'a [u8], word: &[u8]) -> Option<(u32, &'a [u8])> {
-    let (number, rest) = read_number(bytes, word)?;
-    let number = short_number(number)?;
-    Some((number, rest))
+    let Some((number, rest)) = read_number(bytes, word) else {
+        return None;
+    };
+    match short_number(number) {
+        Some(number) => Some((number, rest)),
+        None => None,
+    }
 }
 
 fn short_number(number: u64) -> Option<u32> {
@@ -30,15 +40,28 @@ fn short_number(number: u64) -> Option<u32> {
     Some(number as u32)
 }
 
+fn short_numeral(digits: &[u8]) -> Option<u32> {
+    match numeral(digits) {
+        Some(number) => short_number(number),
+        None => None,
+    }
+}
+
 /// The line and the column that `at: LINE:COLUMN` names, and what comes behind.
 pub(crate) fn read_place(bytes: &[u8]) -> Option<(u32, u32, &[u8])> {
-    let (place, rest) = read_field(bytes, b"at: ")?;
-    let colon = place.iter().position(|b| *b == b':')?;
-    let (line, behind) = place.split_at(colon);
-    let (_, column) = behind.split_at(1);
-    let line = short_number(numeral(line)?)?;
-    let column = short_number(numeral(column)?)?;
-    Some((line, column, rest))
+    let Some((place, rest)) = read_field(bytes, b"at: ") else {
+        return None;
+    };
+    let Some((line, column)) = cut(b':', place) else {
+        return None;
+    };
+    let Some(line) = short_numeral(line) else {
+        return None;
+    };
+    match short_numeral(column) {
+        Some(column) => Some((line, column, rest)),
+        None => None,
+    }
 }
 
 /// The bytes as a text, where they are UTF-8.

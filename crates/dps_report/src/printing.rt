@@ -1,8 +1,9 @@
 //! The text of an outcome.
-ghost use Rattle.std.specs.Prelude.{◌≡◌, ◌≤◌, ◌++◌, ◌∷◌, [], ℕ, length, string_bytes, drop, codes, IfOk, OnOk, IsErr, Some, None, Option};
+ghost use Rattle.std.specs.Prelude.{◌≡◌, ◌≤◌, ◌+◌, ◌++◌, ◌∷◌, [], ℕ, length, string_bytes, drop, codes, IfOk, OnOk, IsErr, Some, None, Option};
 ghost use Rattle.dps_trace.specs.Text.{line, side_line, model_line, model_text};
 ghost use Rattle.dps_report.specs.declared.format.Format.TheVariants.{Second};
 ghost use Rattle.dps_report.specs.declared.outcome.Outcome.TheVariants as outcomes;
+ghost use Rattle.std.specs.Fmt.{decimal};
 ghost use Rattle.dps_report.specs.Reports.{report_text, outcome_lines, stop_text, text_bytes, first_line, if_named, field, each_test, NeedsMemory};
 
 use crate::{Format, Outcome, StopName, Texts};

@@ -5,10 +5,9 @@ ghost use Rattle.dps_report.specs.Reports.{IsReport};
 
 use crate::fields::{read_field, read_number, read_place, read_short, read_text};
 use crate::printing::text_in;
-use crate::{Format, Outcome, StopName, Text, Texts};
-use dps_branch::Side;
+use crate::{Format, Outcome, StopName, Texts};
 use dps_path::{Path, read_path};
-use dps_trace::{ModelName, first_line, read_heading, read_model_line, read_side_line};
+use dps_trace::{ModelName, cut, read_heading, read_model_line, read_side_line};
 use std::alloc::{AllocError, Global};
 
 /// The outcome of which the bytes are the text, in either format. `None` exactly where they are no outcome's text.
@@ -61,7 +60,7 @@ fn outcome_like(
     if let Some((name, rest)) = read_stop(bytes) {
         return Ok(stopped_like(name, rest));
     }
-    if bytes == b"result: no memory\n" {
+    if bytes.starts_with(b"result: no memory\n") {
         return Ok(Some(Outcome::NoMemory));
     }
     named_like(alloc, format, bytes)
@@ -73,28 +72,48 @@ fn named_like(
     format: Format,
     bytes: &[u8],
 ) -> Result<Option<Outcome>, AllocError> {
-    let Some((result, behind)) = read_field(bytes, b"result: ") else {
+    let Some((result, behind)) = read_result(bytes) else {
         return Ok(None);
     };
     let Some((model, rest)) = read_named(format, behind) else {
         return Ok(None);
     };
-    if result == b"equivalent" {
-        return Ok(Some(Outcome::Equivalent { model }));
+    match result {
+        Named::Equivalent => Ok(Some(Outcome::Equivalent { model })),
+        Named::Matched => Ok(matched_like(model, rest)),
+        Named::NoRun => Ok(no_run_like(model, rest)),
+        Named::Spent => spent_like(alloc, model, rest),
+        Named::Attack => attack_like(alloc, model, rest),
     }
-    if result == b"matched" {
-        return Ok(matched_like(model, rest));
+}
+
+/// The results behind which the model's line comes.
+#[derive(Clone, Copy)]
+enum Named {
+    Equivalent,
+    Matched,
+    NoRun,
+    Spent,
+    Attack,
+}
+
+fn read_result(bytes: &[u8]) -> Option<(Named, &[u8])> {
+    if let Some(rest) = bytes.strip_prefix(b"result: equivalent\n") {
+        return Some((Named::Equivalent, rest));
     }
-    if result == b"no run" {
-        return Ok(no_run_like(model, rest));
+    if let Some(rest) = bytes.strip_prefix(b"result: matched\n") {
+        return Some((Named::Matched, rest));
     }
-    if result == b"spent" {
-        return spent_like(alloc, model, rest);
+    if let Some(rest) = bytes.strip_prefix(b"result: no run\n") {
+        return Some((Named::NoRun, rest));
     }
-    if result == b"attack" {
-        return attack_like(alloc, model, rest);
+    if let Some(rest) = bytes.strip_prefix(b"result: spent\n") {
+        return Some((Named::Spent, rest));
     }
-    Ok(None)
+    if let Some(rest) = bytes.strip_prefix(b"result: attack\n") {
+        return Some((Named::Attack, rest));
+    }
+    None
 }
 
 /// The model, where the format names it, and what comes behind.
@@ -125,23 +144,31 @@ fn read_stop(bytes: &[u8]) -> Option<(StopName, &[u8])> {
 }
 
 fn stopped_like(name: StopName, bytes: &[u8]) -> Option<Outcome> {
-    let (word, _) = read_short(bytes, b"word: ")?;
-    Some(Outcome::Stopped { name, word })
+    match read_short(bytes, b"word: ") {
+        Some((word, _)) => Some(Outcome::Stopped { name, word }),
+        None => None,
+    }
 }
 
 fn accepted_like(bytes: &[u8]) -> Option<Outcome> {
-    let (rules, _) = read_short(bytes, b"rules: ")?;
-    Some(Outcome::TheoryAccepted { rules })
+    match read_short(bytes, b"rules: ") {
+        Some((rules, _)) => Some(Outcome::TheoryAccepted { rules }),
+        None => None,
+    }
 }
 
 fn matched_like(model: Option<ModelName>, bytes: &[u8]) -> Option<Outcome> {
-    let (side, _) = read_side_line(bytes)?;
-    Some(Outcome::Matched { model, side })
+    match read_side_line(bytes) {
+        Some((side, _)) => Some(Outcome::Matched { model, side }),
+        None => None,
+    }
 }
 
 fn no_run_like(model: Option<ModelName>, bytes: &[u8]) -> Option<Outcome> {
-    let (label, _) = read_short(bytes, b"label: ")?;
-    Some(Outcome::NoRun { model, label })
+    match read_short(bytes, b"label: ") {
+        Some((label, _)) => Some(Outcome::NoRun { model, label }),
+        None => None,
+    }
 }
 
 /// The path of the node's line, and what comes behind.
@@ -184,7 +211,7 @@ fn not_equivalent_like(
     if heading.model.is_some() != (format == Format::Second) {
         return Ok(None);
     }
-    if trace.last() != Some(&b'\n') {
+    if !trace.ends_with(b"\n") {
         return Ok(None);
     }
     match read_text(alloc, trace)? {
@@ -270,15 +297,13 @@ fn is_test(test: &[u8]) -> bool {
     let Some(recipes) = test.strip_prefix(b"equal ") else {
         return false;
     };
-    let Some(blank) = recipes.iter().position(|b| *b == b' ') else {
-        return false;
-    };
-    let (first, rest) = recipes.split_at(blank);
-    let (_, second) = rest.split_at(1);
-    is_word(first) && is_word(second)
+    match cut(b' ', recipes) {
+        Some((first, second)) => is_word(first) && is_word(second),
+        None => false,
+    }
 }
 
 /// Not empty, and without a blank and a newline.
 fn is_word(text: &[u8]) -> bool {
-    !text.is_empty() && text.iter().all(|b| *b != b' ' && *b != b'\n')
+    !text.is_empty() && !text.contains(&b' ') && !text.contains(&b'\n')
 }

@@ -1,4 +1,5 @@
 pub mod Spelled
+pub mod Cut
 pub mod Written
 pub mod Text
 pub mod Traces

@@ -1,6 +1,6 @@
 -- How a recipe is read, from its text's end to its front: words between signs, where a bracket tells how many arguments the
 -- symbol before it has. What is read so is the only recipe that may have the text.
-use Rattle.std.specs.Prelude.{◌≡◌, ℕ, suc, ◌+◌, ◌*◌, ◌-◌, ◌^◌, Bool, true, false, ◌&&◌, ◌||◌, ◌==◌, nat_le, nat_lt, List, [], ◌∷◌, Option, Some, None, length, take, drop, slice_get, unwrap_or, if◌then◌else◌}
+use Rattle.std.specs.Prelude.{◌≡◌, ℕ, ◌+◌, ◌*◌, ◌-◌, ◌^◌, Bool, true, false, ◌&&◌, ◌||◌, ◌==◌, nat_le, nat_lt, List, [], ◌∷◌, Option, Some, None, length, take, drop, slice_get, unwrap_or, if◌then◌else◌}
 use Rattle.std.specs.Str.{byte}
 use Rattle.std.specs.Option.{option_map}
 use Rattle.dps_terms.specs.declared.PublicName.TheVariants.{Declared, At}
@@ -125,7 +125,7 @@ closing reading = record { brackets = 1 ∷ reading.brackets; arity = 0; terms =
 -- a comma: one more term begins behind it
 abbrev pub comma_in : Reading → List ℕ → Option Reading
 comma_in reading [] = None
-comma_in reading (k ∷ ks) = if nat_lt k 8 then Some (record { brackets = suc k ∷ ks; arity = 0; terms = reading.terms }) else None
+comma_in reading (k ∷ ks) = if nat_lt k 8 then Some (record { brackets = (1 + k) ∷ ks; arity = 0; terms = reading.terms }) else None
 
 -- a bracket opens: the symbol before it has as many arguments as terms begin behind it
 abbrev pub opening_in : Reading → List ℕ → Option Reading

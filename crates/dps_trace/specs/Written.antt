@@ -2,6 +2,8 @@
 use Rattle.std.specs.Prelude.{◌≡◌, ◌<◌, ◌≤◌, ◌^◌, ℕ, ◌+◌, List, [], ◌∷◌, ⊤}
 use Rattle.dps_terms.specs.declared.Sym.{Sym}
 use Rattle.dps_terms.specs.declared.PublicName.TheVariants.{Declared, At}
+use Rattle.dps_terms.specs.declared.borrowed.TermView.{TermView}
+use Rattle.dps_terms.specs.declared.borrowed.TermView.TheVariants.{Ax}
 use Rattle.dps_terms.specs.Tree.{Leaf, public, private, var, ax, entry, rigid, Tree}
 use Rattle.dps_terms.specs.Signature.{Signature, HasArity, IsPublic, shapes}
 use Rattle.dps_terms.specs.Kinds.{IsBuiltOf, AnySymbol}
@@ -35,6 +37,11 @@ IsWrittenLabel signature (overhears c j) = ⊥
 abbrev pub IsHandleUpTo : ℕ → Leaf → Type 0
 IsHandleUpTo m (ax j) = j ≤ m
 IsHandleUpTo m x = ⊤
+
+-- the same of what stands at a root
+abbrev pub ShowsHandleUpTo : ℕ → TermView → Type 0
+ShowsHandleUpTo m (Ax j) = j ≤ m
+ShowsHandleUpTo m view = ⊤
 
 -- behind m outputs: an output has the next handle, and an input's recipe has those of the outputs so far
 abbrev pub IsInTurn : ℕ → Label → Type 0

@@ -1,16 +1,16 @@
 //! Labels of texts.
-ghost use Rattle.std.specs.Prelude.{◌≡◌, ◌≤◌, ◌<◌, ◌^◌, ◌++◌, ◌∷◌, ℕ, List, IfOk, IfSome, Some, option_map, codes};
+ghost use Rattle.std.specs.Prelude.{◌≡◌, ◌≤◌, ◌<◌, ◌^◌, ◌++◌, ◌∷◌, ℕ, List, [], IfOk, IfSome, IsSomeAnd, Some, option_map, codes};
 ghost use Rattle.std.specs.Fmt.{decimal};
 ghost use Rattle.dps_terms.specs.Tree.{Tree};
 ghost use Rattle.dps_terms.specs.Signature.{IsPublic};
 ghost use Rattle.dps_terms.specs.Text.{name_text, term_text};
-ghost use Rattle.dps_process.specs.Steps.{Label, inputs, outputs};
+ghost use Rattle.dps_process.specs.Steps.{Label as SeenLabel, inputs, outputs};
 ghost use Rattle.dps_process.specs.Labels.{label_of};
 ghost use Rattle.dps_trace.specs.Spelled.{IsSpelled};
 ghost use Rattle.dps_trace.specs.Text.{label_text};
 ghost use Rattle.dps_trace.specs.Written.{IsWrittenLabel, IsWrittenRecipe};
-ghost use Rattle.dps_trace.specs.Parts.{IsChannelPart};
 
+use crate::lines::cut;
 use crate::printing::write_label;
 use crate::recipe::recipe_read;
 use crate::words::{handle_read, public_named};
@@ -26,7 +26,7 @@ pub(crate) fn read_label(
 ) -> Result<Option<Label>, NoMemory>
     requires { IsSpelled signature.now }
     ensures found { IfOk result (λ found. IfSome found (λ label. IsWrittenLabel signature.now (label_of label) × (line.now ≡ label_text signature.now (label_of label)))) }
-    ensures only { (label : Label) → IsWrittenLabel signature.now label → line.now ≡ label_text signature.now label → IfOk result (λ found. option_map label_of found ≡ Some label) }
+    ensures only { (label : SeenLabel) → IsWrittenLabel signature.now label → line.now ≡ label_text signature.now label → IfOk result (λ found. option_map label_of found ≡ Some label) }
 {
     let Some(label) = label_like(alloc, signature, line)? else {
         return Ok(None);
@@ -48,7 +48,7 @@ fn label_like(
 ) -> Result<Option<Label>, NoMemory>
     requires { IsSpelled signature.now }
     ensures written { IfOk result (λ found. IfSome found (λ label. IsWrittenLabel signature.now (label_of label))) }
-    ensures only { (label : Label) → IsWrittenLabel signature.now label → line.now ≡ label_text signature.now label → IfOk result (λ found. option_map label_of found ≡ Some label) }
+    ensures only { (label : SeenLabel) → IsWrittenLabel signature.now label → line.now ≡ label_text signature.now label → IfOk result (λ found. option_map label_of found ≡ Some label) }
 {
     if let Some(rest) = line.strip_prefix(b"in(") {
         return input_like(alloc, signature, rest);
@@ -97,16 +97,12 @@ fn output_like(signature: &Signature, rest: &[u8]) -> Option<Label>
 fn split_channel<'a>(signature: &Signature, text: &'a [u8]) -> Option<(u32, &'a [u8])>
     requires { IsSpelled signature.now }
     ensures public { IfSome result (λ p. IsPublic signature.now p.0) }
-    ensures only { (c : ℕ) (inside : List ℕ) → IsPublic signature.now c → text.now ≡ name_text signature.now c ++ (44 ∷ inside ++ 41 ∷ []) → IfSomeIs result (λ p. (p.0 ≡ c) × (p.1.now ≡ inside)) }
+    ensures only { (c : ℕ) (inside : List ℕ) → IsPublic signature.now c → text.now ≡ name_text signature.now c ++ (44 ∷ inside ++ 41 ∷ []) → IsSomeAnd result (λ p. (p.0 ≡ c) × (p.1.now ≡ inside)) }
 {
-    let Some(comma) = text.iter().position(|b| *b == b',') else {
+    let Some((name, behind)) = cut(b',', text) else {
         return None;
     };
-    let (name, rest) = text.split_at(comma);
     let Some(channel) = public_named(signature, name) else {
-        return None;
-    };
-    let Some((_, behind)) = rest.split_first() else {
         return None;
     };
     let Some((_, inside)) = behind.split_last() else {

@@ -6,6 +6,7 @@
 
 mod fault;
 mod label;
+mod lines;
 mod model;
 mod printing;
 mod reading;
@@ -15,10 +16,12 @@ mod turn;
 mod words;
 
 pub use fault::{TraceKind, TraceRefusal};
+pub use lines::{Heading, cut, read_heading, read_model_line, read_side_line};
 pub use model::ModelName;
 pub use printing::{print_trace, write_label};
 pub use reading::read_trace;
 pub use trace::Trace;
+pub use words::numeral;
 
 /// Traces may be handed to other threads and be shared with them.
 pub fn are_shared() {

@@ -1,13 +1,15 @@
 //! The texts of labels and of traces.
-ghost use Rattle.std.specs.Prelude.{◌≡◌, ◌++◌, ◌∷◌, [], string_bytes, IfOk, OnOk};
+ghost use Rattle.std.specs.Prelude.{◌≡◌, ◌++◌, ◌∷◌, [], map, string_bytes, IfOk, OnOk};
+ghost use Rattle.dps_terms.specs.Seen.{seen};
+ghost use Rattle.dps_process.specs.Steps.{inputs, outputs};
 ghost use Rattle.dps_process.specs.Labels.{label_of};
 ghost use Rattle.dps_terms.specs.Text.{name_text};
-ghost use Rattle.dps_trace.specs.Text.{label_text, side_line, heading, trace_text};
+ghost use Rattle.dps_trace.specs.Text.{label_text, label_lines, side_line, heading, trace_text};
 
 use crate::{ModelName, Trace};
 use dps_branch::Side;
 use dps_process::Label;
-use dps_terms::{NoMemory, Signature};
+use dps_terms::{NoMemory, Signature, TermRef};
 use std::alloc::Global;
 
 /// Writes the label behind what is there: `in(c,R)` or `out(c,axj)`.
@@ -21,18 +23,39 @@ pub fn write_label(
 {
     match label {
         Label::In(channel, recipe) => {
-            text.push_str("in(")?;
-            text.push_str(name_of(signature, *channel))?;
-            text.push_str(",")?;
-            recipe.whole().write(alloc, text, signature, signature)?;
+            write_input(alloc, text, signature, *channel, recipe.whole())
         }
-        Label::Out(channel, number) => {
-            text.push_str("out(")?;
-            text.push_str(name_of(signature, *channel))?;
-            write!(text, ",ax{number}")?;
-        }
+        Label::Out(channel, number) => write_output(text, signature, *channel, *number),
     }
+}
+
+fn write_input(
+    alloc: Global,
+    text: &mut String,
+    signature: &Signature,
+    channel: u32,
+    recipe: TermRef<'_>,
+) -> Result<(), NoMemory>
+    ensures { OnOk result (string_bytes text.new ≡ string_bytes text.old ++ label_text signature.now (inputs channel (seen recipe.entry))) }
+{
+    text.push_str("in(")?;
+    text.push_str(name_of(signature, channel))?;
+    text.push_str(",")?;
+    recipe.write(alloc, text, signature, signature)?;
     text.push_str(")")
+}
+
+fn write_output(
+    text: &mut String,
+    signature: &Signature,
+    channel: u32,
+    number: u32,
+) -> Result<(), NoMemory>
+    ensures { OnOk result (string_bytes text.new ≡ string_bytes text.old ++ label_text signature.now (outputs channel number)) }
+{
+    text.push_str("out(")?;
+    text.push_str(name_of(signature, channel))?;
+    write!(text, ",ax{number})")
 }
 
 /// The text of a declared name, and the empty text where there is no such name.
@@ -55,23 +78,39 @@ fn line_of_side(side: Side) -> &'static str
     }
 }
 
-/// Writes the lines before that of the side.
-fn write_heading(text: &mut String, model: Option<ModelName>) -> Result<(), NoMemory>
-    ensures { OnOk result (string_bytes text.new ≡ string_bytes text.old ++ heading model []) }
+/// The lines before that of the side.
+fn heading_of(model: Option<ModelName>) -> &'static str
+    ensures { result.now ≡ heading model [] }
 {
     match model {
-        None => text.push_str("trace 1\n"),
-        Some(model) => {
-            text.push_str("trace 2\nmodel: ")?;
-            text.push_str(model.text())?;
-            text.push_str("\n")
-        }
+        None => "trace 1\n",
+        Some(ModelName::Private) => "trace 2\nmodel: private\n",
+        Some(ModelName::Classic) => "trace 2\nmodel: classic\n",
+        Some(ModelName::Eavesdrop) => "trace 2\nmodel: eavesdrop\n",
     }
+}
+
+/// Writes a line for each label.
+#[tactic(auto, using(crate::proofs::Lines::line_more, crate::proofs::Lines::lines_done))]
+fn write_labels(
+    alloc: Global,
+    text: &mut String,
+    signature: &Signature,
+    labels: &[Label],
+) -> Result<(), NoMemory>
+    ensures { OnOk result (string_bytes text.new ≡ string_bytes text.old ++ label_lines signature.now (map label_of labels.now) []) }
+{
+    for label in labels {
+        write_label(alloc, text, signature, label)?;
+        text.push_str("\n")?;
+    }
+    Ok(())
 }
 
 /// The trace's text: in format 2 where it has a model, and else in format 1.
 ///
 /// It fails for want of memory alone. Where the labels may stand in a trace, the text is read again as this trace.
+#[tactic(auto, using(crate::proofs::Lines::whole_text))]
 pub fn print_trace(
     alloc: Global,
     signature: &Signature,
@@ -80,11 +119,8 @@ pub fn print_trace(
     ensures { IfOk result (λ text. string_bytes text ≡ trace_text signature.now trace.now) }
 {
     let mut text = String::new(alloc);
-    write_heading(&mut text, trace.model)?;
+    text.push_str(heading_of(trace.model))?;
     text.push_str(line_of_side(trace.side))?;
-    for label in &trace.labels {
-        write_label(alloc, &mut text, signature, label)?;
-        text.push_str("\n")?;
-    }
+    write_labels(alloc, &mut text, signature, &trace.labels)?;
     Ok(text)
 }

@@ -7,9 +7,9 @@ ghost use Rattle.dps_trace.specs.Faults.{IsRefusedFor};
 ghost use Rattle.dps_trace.specs.declared.fault.TraceRefusal.TheVariants.{Memory};
 
 use crate::label::read_label;
+use crate::lines::{cut, read_heading, read_side_line};
 use crate::turn::{is_in_turn, outputs_behind};
-use crate::{ModelName, Trace, TraceKind, TraceRefusal};
-use dps_branch::Side;
+use crate::{Trace, TraceKind, TraceRefusal};
 use dps_process::Label;
 use dps_terms::Signature;
 use std::alloc::Global;
@@ -29,8 +29,11 @@ pub fn read_trace(
     ensures fault { IfErr result (λ refusal. IsRefusedFor signature.now bytes.now refusal) }
     ensures only { (trace : Trace) → IsTraceText signature.now trace bytes.now → (result ≡ Ok trace) ⊎ (result ≡ Err Memory) }
 {
-    let heading = read_heading(bytes)?;
-    let Some((side, rest)) = read_side(heading.rest) else {
+    let heading = match read_heading(bytes) {
+        Ok(heading) => heading,
+        Err((line, kind)) => return Err(TraceRefusal::Fault { line, kind }),
+    };
+    let Some((side, rest)) = read_side_line(heading.rest) else {
         return Err(TraceRefusal::Fault {
             line: heading.lines + 1,
             kind: TraceKind::Side,
@@ -42,69 +45,6 @@ pub fn read_trace(
         side,
         labels,
     })
-}
-
-/// The lines before that of the side: the model that they name, how many they are, and what comes behind.
-#[derive(Clone, Copy)]
-struct Heading<'a> {
-    model: Option<ModelName>,
-    lines: u32,
-    rest: &'a [u8],
-}
-
-fn read_heading(bytes: &[u8]) -> Result<Heading<'_>, TraceRefusal>
-{
-    if let Some(rest) = bytes.strip_prefix(b"trace 1\n") {
-        return Ok(Heading {
-            model: None,
-            lines: 1,
-            rest,
-        });
-    }
-    let Some(behind) = bytes.strip_prefix(b"trace 2\n") else {
-        return Err(TraceRefusal::Fault {
-            line: 1,
-            kind: TraceKind::Header,
-        });
-    };
-    match read_model_line(behind) {
-        Some((model, rest)) => Ok(Heading {
-            model: Some(model),
-            lines: 2,
-            rest,
-        }),
-        None => Err(TraceRefusal::Fault {
-            line: 2,
-            kind: TraceKind::Model,
-        }),
-    }
-}
-
-/// The model of the first line, and what comes behind.
-fn read_model_line(bytes: &[u8]) -> Option<(ModelName, &[u8])>
-{
-    if let Some(rest) = bytes.strip_prefix(b"model: private\n") {
-        return Some((ModelName::Private, rest));
-    }
-    if let Some(rest) = bytes.strip_prefix(b"model: classic\n") {
-        return Some((ModelName::Classic, rest));
-    }
-    if let Some(rest) = bytes.strip_prefix(b"model: eavesdrop\n") {
-        return Some((ModelName::Eavesdrop, rest));
-    }
-    None
-}
-
-/// The side of the first line, and what comes behind.
-fn read_side(bytes: &[u8]) -> Option<(Side, &[u8])>
-{
-    if let Some(rest) = bytes.strip_prefix(b"side: left\n") {
-        return Some((Side::Left, rest));
-    }
-    if let Some(rest) = bytes.strip_prefix(b"side: right\n") {
-        return Some((Side::Right, rest));
-    }
-    None
 }
 
 /// The labels of the lines, of which the first has this number.
@@ -120,7 +60,7 @@ fn read_labels(
     let mut outputs: u32 = 0;
     let mut rest = bytes;
     while !rest.is_empty() {
-        let Some((text, behind)) = first_line(rest) else {
+        let Some((text, behind)) = cut(b'\n', rest) else {
             return Err(label_fault(line));
         };
         let Some(label) = read_label(alloc, signature, text)? else {
@@ -148,15 +88,4 @@ fn label_fault(line: u32) -> TraceRefusal
         line,
         kind: TraceKind::Label,
     }
-}
-
-/// The first line without its newline, and what comes behind. `None` where no newline ends it.
-fn first_line(bytes: &[u8]) -> Option<(&[u8], &[u8])>
-{
-    let Some(end) = bytes.iter().position(|b| *b == b'\n') else {
-        return None;
-    };
-    let (line, behind) = bytes.split_at(end);
-    let (_, rest) = behind.split_at(1);
-    Some((line, rest))
 }

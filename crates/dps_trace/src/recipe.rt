@@ -1,11 +1,12 @@
 //! Recipes of texts.
 ghost use Rattle.std.specs.Prelude.{◌≡◌, ◌↔◌, IfOk, OnOk, IfSome, Some, length, option_map};
-ghost use Rattle.dps_trace.specs.Scanning.{start, closing, comma_in, opening_in, with_word, with_sign, finished, recipe_read, is_sign};
+ghost use Rattle.dps_trace.specs.Scanning.{start, closing, comma_in, opening_in, with_word, with_sign, with_leaf, applied, finished, recipe_read, is_sign};
 ghost use Rattle.dps_trace.specs.Told.{told};
+ghost use Rattle.dps_terms.specs.Leaves.{leaf_seen};
 
 use crate::words::{leaf_read, symbol_read};
-use dps_terms::{NoMemory, Signature, Sym, Term, TermStack};
-use std::alloc::Global;
+use dps_terms::{NoMemory, Signature, Sym, Term, TermLeaf, TermStack};
+use std::alloc::{AllocError, Global};
 use std::marker::Model;
 
 /// What of a recipe was read, from its end on.
@@ -89,10 +90,26 @@ impl Reading {
         if arity > 8 || arity as usize > self.height {
             return Ok(false);
         }
+        let Some(height) = (self.height - arity as usize).checked_add(1) else {
+            return Err(AllocError);
+        };
         self.terms.apply(sym, arity)?;
-        self.height = self.height - arity as usize + 1;
+        self.height = height;
         self.arity = 0;
         Ok(true)
+    }
+
+    /// Puts the leaf in front.
+    fn push_leaf(&mut self, leaf: TermLeaf) -> Result<(), NoMemory>
+        ensures { OnOk result (self.new ≡ with_leaf self.old (leaf_seen leaf)) }
+    {
+        let Some(height) = self.height.checked_add(1) else {
+            return Err(AllocError);
+        };
+        self.terms.push_leaf(leaf)?;
+        self.height = height;
+        self.arity = 0;
+        Ok(())
     }
 
     /// Reads a word. False where it means nothing there.
@@ -108,8 +125,7 @@ impl Reading {
         let Some(leaf) = leaf_read(signature, word) else {
             return Ok(false);
         };
-        self.terms.push_leaf(leaf)?;
-        self.height += 1;
+        self.push_leaf(leaf)?;
         Ok(true)
     }
 

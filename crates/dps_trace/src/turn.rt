@@ -1,9 +1,9 @@
 //! Labels behind outputs.
-ghost use Rattle.std.specs.Prelude.{◌≡◌, ◌↔◌, IsTrue};
+ghost use Rattle.std.specs.Prelude.{◌≡◌, ◌<◌, ◌-◌, ◌^◌, ◌↔◌, IsTrue};
 ghost use Rattle.dps_terms.specs.Kinds.{IsBuiltOf, AnySymbol};
 ghost use Rattle.dps_terms.specs.Seen.{seen};
 ghost use Rattle.dps_process.specs.Labels.{label_of};
-ghost use Rattle.dps_trace.specs.Written.{IsInTurn, IsHandleUpTo, outputs_behind};
+ghost use Rattle.dps_trace.specs.Written.{IsInTurn, IsHandleUpTo, ShowsHandleUpTo, outputs_behind};
 
 use dps_process::Label;
 use dps_terms::{TermRef, TermView};
@@ -30,15 +30,24 @@ pub(crate) fn outputs_behind(label: &Label, outputs: u32) -> u32
 }
 
 /// Whether each handle in the recipe is among the first ones, so many. It goes over the nodes one by one, with no stack.
+#[tactic(auto, using(crate::proofs::Handles::for_has_handles_up_to))]
 fn has_handles_up_to(recipe: TermRef<'_>, most: u32) -> bool
     ensures { IsTrue result ↔ IsBuiltOf (IsHandleUpTo most) AnySymbol (seen recipe.entry) }
 {
     for node in 0..recipe.node_count() {
-        if let TermView::Ax(number) = recipe.subterm(node).view() {
-            if number > most {
-                return false;
-            }
+        if !shows_handle_up_to(recipe.subterm(node).view(), most) {
+            return false;
         }
     }
     true
+}
+
+/// Whether no later handle stands at the root.
+fn shows_handle_up_to(view: TermView, most: u32) -> bool
+    ensures { IsTrue result ↔ ShowsHandleUpTo most view }
+{
+    match view {
+        TermView::Ax(number) => number <= most,
+        _ => true,
+    }
 }

@@ -1,6 +1,7 @@
 //! What words of a label mean.
 ghost use Rattle.std.specs.Prelude.{◌≡◌, ◌↔◌, IsTrue, option_map, option_copied, Some, None, if◌then◌else◌};
 ghost use Rattle.dps_trace.specs.Scanning.{numeral, numeral_from, longer, is_ascii, public_named, public_if, handle_read, handle_of, own_read, leaf_read, symbol_read, symbol_if};
+ghost use Rattle.dps_terms.specs.Names.{symbol_named, name_named};
 ghost use Rattle.dps_terms.specs.Leaves.{leaf_seen};
 
 use dps_terms::{PublicName, Signature, Sym, TermLeaf, tuple_text};
@@ -9,14 +10,21 @@ use dps_terms::{PublicName, Signature, Sym, TermLeaf, tuple_text};
 fn longer(number: u64, digit: u8) -> Option<u64>
     ensures { result ≡ longer number digit }
 {
-    if digit < b'0' || digit > b'9' {
+    if digit < b'0' {
         return None;
     }
-    number.checked_mul(10)?.checked_add(u64::from(digit - b'0'))
+    if digit > b'9' {
+        return None;
+    }
+    let next = u128::from(number) * 10 + u128::from(digit - b'0');
+    if next > u128::from(u64::MAX) {
+        return None;
+    }
+    Some(next as u64)
 }
 
 /// The number of these digits, where it is below 2^64. Zeros may lead.
-fn numeral(digits: &[u8]) -> Option<u64>
+pub fn numeral(digits: &[u8]) -> Option<u64>
     ensures { result ≡ numeral digits.now }
 {
     let mut number: u64 = 0;

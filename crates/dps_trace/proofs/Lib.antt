@@ -1,0 +1,10 @@
+pub mod Cuts
+pub mod Digits
+pub mod Handles
+pub mod Labels
+pub mod Lines
+pub mod Reading
+pub mod Scanned
+pub mod Sound
+pub mod Spelling
+pub mod Words
