@@ -12,7 +12,7 @@ use Rattle.dps_trace.proofs.Cuts.{one_cut, stands_there, unsigned_without}
 use Rattle.dps_trace.proofs.Digits.{numeral-decimal}
 use Rattle.dps_trace.proofs.Scanned.{recipe_scanned}
 use Rattle.dps_trace.proofs.Spelling.{word_bytes}
-use Rattle.dps_trace.proofs.Words.{name_is, identifier, public_read, in_range, all_read}
+use Rattle.dps_trace.proofs.WordsRead.{name_is, identifier, public_read, in_range, all_read}
 
 -- a recipe is read from its text
 pub text_read : (S : Signature) (spelled : IsSpelled S) (r : Tree) → IsWrittenRecipe S r → recipe_read S (term_text S r) ≡ Some r

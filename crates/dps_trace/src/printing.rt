@@ -91,7 +91,7 @@ fn heading_of(model: Option<ModelName>) -> &'static str
 }
 
 /// Writes a line for each label.
-#[tactic(auto, using(crate::proofs::Lines::line_more, crate::proofs::Lines::lines_done))]
+#[tactic(auto, using(crate::proofs::EachLine::line_more, crate::proofs::EachLine::lines_done))]
 fn write_labels(
     alloc: Global,
     text: &mut String,
@@ -110,7 +110,7 @@ fn write_labels(
 /// The trace's text: in format 2 where it has a model, and else in format 1.
 ///
 /// It fails for want of memory alone. Where the labels may stand in a trace, the text is read again as this trace.
-#[tactic(auto, using(crate::proofs::Lines::whole_text))]
+#[tactic(auto, using(crate::proofs::EachLine::whole_text))]
 pub fn print_trace(
     alloc: Global,
     signature: &Signature,

@@ -1,5 +1,5 @@
 //! Traces of texts.
-ghost use Rattle.std.specs.Prelude.{◌≡◌, ◌⊎◌, ◌<◌, ◌^◌, ◌-◌, length, IfOk, IfErr, Ok, Err};
+ghost use Rattle.std.specs.Prelude.{◌≡◌, ◌⊎◌, ◌<◌, ◌^◌, ◌-◌, ◌+◌, length, IfOk, IfErr, Ok, Err};
 ghost use Rattle.dps_trace.specs.Spelled.{IsSpelled};
 ghost use Rattle.dps_trace.specs.Traces.{Trace};
 ghost use Rattle.dps_trace.specs.Text.{IsTraceText};
@@ -18,6 +18,7 @@ use std::alloc::Global;
 ///
 /// The signature tells its symbols and names apart by their texts, and there are fewer than 2^32 - 1 bytes. `Fault` comes
 /// exactly where the bytes are no trace's text, with the first line that is wrong. `Memory` where memory was wanting.
+#[tactic(auto, using(crate::proofs::Fronts::lines_room))]
 pub fn read_trace(
     alloc: Global,
     signature: &Signature,
@@ -48,18 +49,21 @@ pub fn read_trace(
 }
 
 /// The labels of the lines, of which the first has this number.
+#[tactic(auto, using(crate::proofs::Fronts::cut_shorter))]
 fn read_labels(
     alloc: Global,
     signature: &Signature,
     first: u32,
     bytes: &[u8],
 ) -> Result<Vec<Label>, TraceRefusal>
+    requires spelled { IsSpelled signature.now }
+    requires few { first + length bytes.now < 2 ^ 32 - 1 }
 {
     let mut labels = Vec::new(alloc);
     let mut line = first;
     let mut outputs: u32 = 0;
     let mut rest = bytes;
-    while !rest.is_empty() {
+    'lines: while !rest.is_empty() {
         let Some((text, behind)) = cut(b'\n', rest) else {
             return Err(label_fault(line));
         };
@@ -82,8 +86,7 @@ fn read_labels(
     Ok(labels)
 }
 
-fn label_fault(line: u32) -> TraceRefusal
-{
+fn label_fault(line: u32) -> TraceRefusal {
     TraceRefusal::Fault {
         line,
         kind: TraceKind::Label,

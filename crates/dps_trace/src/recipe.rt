@@ -171,6 +171,7 @@ fn is_sign(byte: u8) -> bool
 
 /// The recipe that alone may have this text. It is read from the text's end on, so a symbol comes behind its arguments, in
 /// time by the length of the text, and with no stack by depth.
+#[tactic(auto, using(crate::proofs::Backward::for_recipe_read))]
 pub(crate) fn recipe_read(
     alloc: Global,
     signature: &Signature,

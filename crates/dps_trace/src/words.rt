@@ -37,6 +37,7 @@ pub fn numeral(digits: &[u8]) -> Option<u64>
     Some(number)
 }
 
+#[tactic(auto, using(crate::proofs::Ascii::for_is_ascii))]
 fn is_ascii(bytes: &[u8]) -> bool
     ensures { result ≡ is_ascii bytes.now }
 {

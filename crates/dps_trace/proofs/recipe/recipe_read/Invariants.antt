@@ -1,5 +1,5 @@
 use Rattle.std.proofs.Common.{ℕ, length}
-use Rattle.dps_trace.proofs.Reading.{IsRead}
+use Rattle.dps_trace.proofs.Backward.{IsRead}
 use Rattle.dps_trace.proofs.recipe.recipe_read.Given as goal
 
 abbrev pub invariant-loop-byte : goal.invariant-loop-byte

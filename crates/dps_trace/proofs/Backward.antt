@@ -53,11 +53,18 @@ before_sign S text front unread before reading b h e yes =
     ∙ ap (λ u. scanned S u (Some (record { word = h.word; reading = reading }))) (sym e)
     ∙ h.same
 
+told_yes : (c : Bool) (next : Reading) (x : Option Reading) → c ≡ true → told c next ≡ x → Some next ≡ x
+told_yes c next x yes e = ap (λ d. told d next) (sym yes) ∙ e
+
+told_no : (c : Bool) (next : Reading) (x : Option Reading) → c ≡ false → told c next ≡ x → None ≡ x
+told_no c next x no e = ap (λ d. told d next) (sym no) ∙ e
+
 -- a sign
 pub sign_read :
-    (S : Signature) (text front unread before word : List ℕ) (reading next : Reading) (b : ℕ) → IsRead S text front unread reading → unread ≡ before ++ (b ∷ [])
-    → is_sign b ≡ true → word ≡ drop (length unread) front → Some next ≡ with_sign S b word reading → IsRead S text before before next
-sign_read S text front unread before word reading next b h e yes w n =
+    (S : Signature) (text front unread before word : List ℕ) (reading next : Reading) (b : ℕ) (c : Bool) → IsRead S text front unread reading → unread ≡ before ++ (b ∷ [])
+    → is_sign b ≡ true → word ≡ drop (length unread) front → told c next ≡ with_sign S b word reading → c ≡ true → IsRead S text before before next
+sign_read S text front unread before word reading next b c h e yes w told_is is_true =
+    let n : Some next ≡ with_sign S b word reading = told_yes c next (with_sign S b word reading) is_true told_is in
     record {
       word = [];
       front_is = sym (append-nil before);
@@ -70,9 +77,10 @@ none_scanned S (b ∷ bytes) = ap (with_byte S b) (none_scanned S bytes)
 
 -- a sign that may not stand there
 pub sign_refused :
-    (S : Signature) (text front unread before word : List ℕ) (reading : Reading) (b : ℕ) → IsRead S text front unread reading → unread ≡ before ++ (b ∷ [])
-    → is_sign b ≡ true → word ≡ drop (length unread) front → None ≡ with_sign S b word reading → None ≡ recipe_read S text
-sign_refused S text front unread before word reading b h e yes w n =
+    (S : Signature) (text front unread before word : List ℕ) (reading next : Reading) (b : ℕ) (c : Bool) → IsRead S text front unread reading → unread ≡ before ++ (b ∷ [])
+    → is_sign b ≡ true → word ≡ drop (length unread) front → told c next ≡ with_sign S b word reading → c ≡ false → None ≡ recipe_read S text
+sign_refused S text front unread before word reading next b c h e yes w told_is is_false =
+    let n : None ≡ with_sign S b word reading = told_no c next (with_sign S b word reading) is_false told_is in
     ap (read_whole S)
     (sym (none_scanned S before) ∙ ap (λ x. scanned S before (between x)) (n ∙ ap (λ v. with_sign S b v reading) w) ∙ before_sign S text front unread before reading b h e yes)
 
@@ -81,3 +89,18 @@ pub whole_read : (S : Signature) (text front unread : List ℕ) (reading : Readi
 whole_read S text front unread reading h e =
     sym (ap (read_whole S) (sym (ap (λ u. scanned S u (Some (record { word = h.word; reading = reading }))) e) ∙ h.same))
     ∙ ap (λ w. finished (with_word S w reading)) (sym (h.front_is ∙ ap (λ u. u ++ h.word) e))
+
+-- the last word
+pub last_read :
+    (S : Signature) (text front unread : List ℕ) (reading next : Reading) (c : Bool) (found : Option Tree) → IsRead S text front unread reading → unread ≡ []
+    → told c next ≡ with_word S front reading → c ≡ true → found ≡ finished (Some next) → found ≡ recipe_read S text
+last_read S text front unread reading next c found h e told_is is_true f =
+    f ∙ ap finished (told_yes c next (with_word S front reading) is_true told_is) ∙ sym (whole_read S text front unread reading h e)
+
+pub last_refused :
+    (S : Signature) (text front unread : List ℕ) (reading next : Reading) (c : Bool) → IsRead S text front unread reading → unread ≡ []
+    → told c next ≡ with_word S front reading → c ≡ false → None ≡ recipe_read S text
+last_refused S text front unread reading next c h e told_is is_false =
+    ap finished (told_no c next (with_word S front reading) is_false told_is) ∙ sym (whole_read S text front unread reading h e)
+
+pub ruleset for_recipe_read = (none_read, letter_read, sign_read, sign_refused, last_read, last_refused)

@@ -17,13 +17,14 @@ line_behind before text rest = simp append_assoc
 
 -- one more label
 pub line_more :
-    (signature : Signature) (items : List Label) (i : ℕ) (label : Label) (before middle after total : List ℕ) → drop i items ≡ label ∷ drop (i + 1) items
+    (signature : Signature) (items : List Label) (i : ℕ) (label : Label) (before middle after total : List ℕ) → i < length items → label ≡ get_or items i label
     → middle ≡ before ++ label_text signature (label_of label)
     → after ≡ middle ++ (10 ∷ [])
     → before ++ label_lines signature (map label_of (drop i items)) [] ≡ total
     → after ++ label_lines signature (map label_of (drop (i + 1) items)) [] ≡ total
-line_more signature items i label before middle after total left d e t =
+line_more signature items i label before middle after total h at d e t =
     let rest = label_lines signature (map label_of (drop (i + 1) items)) [] in
+    let left : drop i items ≡ label ∷ drop (i + 1) items = drop_more items i label h ∙ ap (λ x. x ∷ drop (i + 1) items) (sym at) in
     ap (λ x. x ++ rest) (e ∙ ap (λ x. x ++ (10 ∷ [])) d)
     ∙ (line_behind before (label_text signature (label_of label)) rest ∙ (sym (ap (λ x. before ++ label_lines signature (map label_of x) []) left) ∙ t))
 
