@@ -25,12 +25,12 @@ none_read S text reading e = record { word = []; front_is = sym (append-nil text
 pub letter_read :
     (S : Signature) (text front unread before : List ℕ) (reading : Reading) (b : ℕ) → IsRead S text front unread reading → unread ≡ before ++ (b ∷ [])
     → is_sign b ≡ false → IsRead S text front before reading
-letter_read S text front unread before reading b h e no =
+letter_read S text front unread before reading b h e not_so =
     record {
       word = b ∷ h.word;
       front_is = h.front_is ∙ ap (λ u. u ++ h.word) e ∙ append_assoc before (b ∷ []) h.word;
       same =
-          ap (scanned S before) (sym (no_sign S b h.word reading no))
+          ap (scanned S before) (sym (no_sign S b h.word reading not_so))
           ∙ sym (scanned-append S before (b ∷ []) (Some (record { word = h.word; reading = reading })))
           ∙ ap (λ u. scanned S u (Some (record { word = h.word; reading = reading }))) (sym e)
           ∙ h.same;
@@ -46,29 +46,29 @@ at_sign S b w r e = ap (λ t. if t then between (with_sign S b w r) else Some (r
 before_sign :
     (S : Signature) (text front unread before : List ℕ) (reading : Reading) (b : ℕ) (h : IsRead S text front unread reading) → unread ≡ before ++ (b ∷ [])
     → is_sign b ≡ true → scanned S before (between (with_sign S b (drop (length unread) front) reading)) ≡ scanned S text begun
-before_sign S text front unread before reading b h e yes =
+before_sign S text front unread before reading b h e is_so =
     ap (λ w. scanned S before (between (with_sign S b w reading))) (word_behind S text front unread reading h)
-    ∙ ap (scanned S before) (sym (at_sign S b h.word reading yes))
+    ∙ ap (scanned S before) (sym (at_sign S b h.word reading is_so))
     ∙ sym (scanned-append S before (b ∷ []) (Some (record { word = h.word; reading = reading })))
     ∙ ap (λ u. scanned S u (Some (record { word = h.word; reading = reading }))) (sym e)
     ∙ h.same
 
 told_yes : (c : Bool) (next : Reading) (x : Option Reading) → c ≡ true → told c next ≡ x → Some next ≡ x
-told_yes c next x yes e = ap (λ d. told d next) (sym yes) ∙ e
+told_yes c next x is_so e = ap (λ d. told d next) (sym is_so) ∙ e
 
 told_no : (c : Bool) (next : Reading) (x : Option Reading) → c ≡ false → told c next ≡ x → None ≡ x
-told_no c next x no e = ap (λ d. told d next) (sym no) ∙ e
+told_no c next x not_so e = ap (λ d. told d next) (sym not_so) ∙ e
 
 -- a sign
 pub sign_read :
     (S : Signature) (text front unread before word : List ℕ) (reading next : Reading) (b : ℕ) (c : Bool) → IsRead S text front unread reading → unread ≡ before ++ (b ∷ [])
     → is_sign b ≡ true → word ≡ drop (length unread) front → told c next ≡ with_sign S b word reading → c ≡ true → IsRead S text before before next
-sign_read S text front unread before word reading next b c h e yes w told_is is_true =
+sign_read S text front unread before word reading next b c h e is_so w told_is is_true =
     let n : Some next ≡ with_sign S b word reading = told_yes c next (with_sign S b word reading) is_true told_is in
     record {
       word = [];
       front_is = sym (append-nil before);
-      same = ap (λ x. scanned S before (between x)) (n ∙ ap (λ v. with_sign S b v reading) w) ∙ before_sign S text front unread before reading b h e yes;
+      same = ap (λ x. scanned S before (between x)) (n ∙ ap (λ v. with_sign S b v reading) w) ∙ before_sign S text front unread before reading b h e is_so;
     }
 
 none_scanned : (S : Signature) (bytes : List ℕ) → scanned S bytes None ≡ None
@@ -79,10 +79,10 @@ none_scanned S (b ∷ bytes) = ap (with_byte S b) (none_scanned S bytes)
 pub sign_refused :
     (S : Signature) (text front unread before word : List ℕ) (reading next : Reading) (b : ℕ) (c : Bool) → IsRead S text front unread reading → unread ≡ before ++ (b ∷ [])
     → is_sign b ≡ true → word ≡ drop (length unread) front → told c next ≡ with_sign S b word reading → c ≡ false → None ≡ recipe_read S text
-sign_refused S text front unread before word reading next b c h e yes w told_is is_false =
+sign_refused S text front unread before word reading next b c h e is_so w told_is is_false =
     let n : None ≡ with_sign S b word reading = told_no c next (with_sign S b word reading) is_false told_is in
     ap (read_whole S)
-    (sym (none_scanned S before) ∙ ap (λ x. scanned S before (between x)) (n ∙ ap (λ v. with_sign S b v reading) w) ∙ before_sign S text front unread before reading b h e yes)
+    (sym (none_scanned S before) ∙ ap (λ x. scanned S before (between x)) (n ∙ ap (λ v. with_sign S b v reading) w) ∙ before_sign S text front unread before reading b h e is_so)
 
 -- nothing is unread
 pub whole_read : (S : Signature) (text front unread : List ℕ) (reading : Reading) → IsRead S text front unread reading → unread ≡ [] → recipe_read S text ≡ finished (with_word S front reading)

@@ -71,7 +71,7 @@ shown m (app s ts) h = tt
 pub fails :
     (m : ℕ) (t u : Tree) (node : ℕ) (rest : List Tree) → Follows m t node → subterms_from t node ≡ u ∷ rest → ¬ ShowsHandleUpTo m (view_of u)
     → IsBuiltOf (IsHandleUpTo m) AnySymbol t → ⊥
-fails m t u node rest h first no b = no (shown m u (subst (AllUpTo m) first (h.to_rest b)).0)
+fails m t u node rest h first not_shown b = not_shown (shown m u (subst (AllUpTo m) first (h.to_rest b)).0)
 
 -- no node is left
 pub holds : (m : ℕ) (t : Tree) (node : ℕ) → Follows m t node → subterms_from t node ≡ [] → IsBuiltOf (IsHandleUpTo m) AnySymbol t

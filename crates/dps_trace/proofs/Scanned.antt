@@ -80,6 +80,22 @@ module _ (S : Signature) (L : Leaf → Type 0) (F : Sym → ℕ → Type 0) wher
         → with_word S (root_text S f) (record { brackets = ks; arity = n; terms = us }) ≡ settled ks (app f (trees (take n us)) ∷ drop n us)
 
   module _ (read : AreRead) where
+    -- the symbol over terms that were read
+    root_scanned :
+        (f : Sym) (ts : Trees) (ks : List ℕ) (us : List Tree) (n : ℕ) → n ≡ count ts → F f n
+        → flushed S (scanned S (root_text S f) (Some (record { word = []; reading = record { brackets = ks; arity = n; terms = list_of ts ++ us } }))) ≡ settled ks (app f ts ∷ us)
+    root_scanned f ts ks us n e h =
+        ap (flushed S) (word_scanned S (root_text S f) [] (record { brackets = ks; arity = n; terms = list_of ts ++ us }) (read.root_unsigned f n h))
+        ∙ ap (λ w. with_word S w (record { brackets = ks; arity = n; terms = list_of ts ++ us })) (append-nil (root_text S f))
+        ∙ read.root_is f n ks (list_of ts ++ us) h (omega (arith, e, length-list_of ts, length-appended))
+        ∙ ap (λ k. settled ks (app f (trees (take k (list_of ts ++ us))) ∷ drop k (list_of ts ++ us))) e
+        ∙ ap (λ xs. settled ks (app f (trees xs) ∷ drop (count ts) (list_of ts ++ us))) (taken ts us)
+        ∙ ap (λ xs. settled ks (app f (trees (list_of ts)) ∷ xs)) (dropped ts us)
+        ∙ ap (λ xs. settled ks (app f xs ∷ us)) (trees-list_of ts)
+      where
+        length-appended : length (list_of ts ++ us) ≡ length (list_of ts) + length us
+        length-appended = length-append (list_of ts) us
+
     mutual
       pub tree_scanned : (t : Tree) (ks : List ℕ) (us : List Tree) → IsBuiltOf L F t → flushed S (scanned S (term_text S t) (fresh ks us)) ≡ settled ks (t ∷ us)
       tree_scanned (leaf x) ks us h =
@@ -101,22 +117,6 @@ module _ (S : Signature) (L : Leaf → Type 0) (F : Sym → ℕ → Type 0) wher
         where
           few : (1 + count ts) ≤ 8
           few = read.root_few f (1 + count ts) h.0
-
-      -- the symbol over terms that were read
-      root_scanned :
-          (f : Sym) (ts : Trees) (ks : List ℕ) (us : List Tree) (n : ℕ) → n ≡ count ts → F f n
-          → flushed S (scanned S (root_text S f) (Some (record { word = []; reading = record { brackets = ks; arity = n; terms = list_of ts ++ us } }))) ≡ settled ks (app f ts ∷ us)
-      root_scanned f ts ks us n e h =
-          ap (flushed S) (word_scanned S (root_text S f) [] (record { brackets = ks; arity = n; terms = list_of ts ++ us }) (read.root_unsigned f n h))
-          ∙ ap (λ w. with_word S w (record { brackets = ks; arity = n; terms = list_of ts ++ us })) (append-nil (root_text S f))
-          ∙ read.root_is f n ks (list_of ts ++ us) h (omega (arith, e, length-list_of ts, length-appended))
-          ∙ ap (λ k. settled ks (app f (trees (take k (list_of ts ++ us))) ∷ drop k (list_of ts ++ us))) e
-          ∙ ap (λ xs. settled ks (app f (trees xs) ∷ drop (count ts) (list_of ts ++ us))) (taken ts us)
-          ∙ ap (λ xs. settled ks (app f (trees (list_of ts)) ∷ xs)) (dropped ts us)
-          ∙ ap (λ xs. settled ks (app f xs ∷ us)) (trees-list_of ts)
-        where
-          length-appended : length (list_of ts ++ us) ≡ length (list_of ts) + length us
-          length-appended = length-append (list_of ts) us
 
       -- the terms behind the first one, from the closing bracket on
       rest_scanned :

@@ -30,13 +30,13 @@ ascii_more b bs low h = grind (arith, nat_tests)
 names_unsigned : (bs : List ℕ) → list_all is_name_byte bs ≡ true → IsUnsigned bs × (is_ascii bs ≡ true)
 names_unsigned [] h = (tt, refl)
 names_unsigned (b ∷ bs) h =
-    let both : (is_name_byte b ≡ true) × (list_all is_name_byte bs ≡ true) = grind nat_tests in
+    let both : (is_name_byte b ≡ true) × (list_all is_name_byte bs ≡ true) = grind (arith, nat_tests) in
     let one = name_byte b both.0 in
     let more = names_unsigned bs both.1 in
     ((one.0, more.0), ascii_more b bs one.1 more.1)
 
 letter_byte : (b : ℕ) → is_letter b ≡ true → is_name_byte b ≡ true
-letter_byte b h = grind nat_tests
+letter_byte b h = grind (arith, nat_tests)
 
 pub word_bytes : (text : List ℕ) → IsWord text → IsUnsigned text × (is_ascii text ≡ true)
 word_bytes [] h = absurd h
@@ -75,18 +75,18 @@ pub record IsNoText (text : List ℕ) : Type 0 where
   pub no_tuple : (kind : SymKind) (n : ℕ) → ¬ IsTupleSymbol text kind n
 
 pub no_symbol : (S : Signature) (text : List ℕ) → IsSpelled S → IsNoText text → symbol_named S text ≡ None
-no_symbol S text spelled no = is_none (symbol_named S text) (λ i e. 
+no_symbol S text spelled not_text = is_none (symbol_named S text) (λ i e. 
     let found = found_symbol S text i e in
     fails found.0 (subst (λ t. IsSymbolText t found.0.kind found.0.arity) (sym found.1.1) (spelled.symbol_texts i found.0 found.1.0)))
   where
     fails : (s : Symbol) → IsSymbolText text s.kind s.arity → ⊥
-    fails s (inl h) = no.no_identifier h
-    fails s (inr h) = no.no_tuple s.kind s.arity h
+    fails s (inl h) = not_text.no_identifier h
+    fails s (inr h) = not_text.no_tuple s.kind s.arity h
 
 pub no_name : (S : Signature) (text : List ℕ) → IsSpelled S → IsNoText text → name_named S text ≡ None
-no_name S text spelled no = is_none (name_named S text) (λ i e.
+no_name S text spelled not_text = is_none (name_named S text) (λ i e.
     let found = found_name S text i e in
-    no.no_identifier (subst IsIdentifier (sym found.1.1) (spelled.name_texts i found.0 found.1.0)))
+    not_text.no_identifier (subst IsIdentifier (sym found.1.1) (spelled.name_texts i found.0 found.1.0)))
 
 -- marks are no texts of names and symbols
 pub own_no_text : (bs : List ℕ) → IsNoText (64 ∷ bs)
