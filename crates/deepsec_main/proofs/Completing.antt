@@ -11,15 +11,15 @@ use Rattle.dps_meaning.specs.Laws.{NoTextMeansTwoProblems}
 use Rattle.dps_judge.specs.Meaning.{MeansEquivalent, MeansDifferent}
 use Rattle.dps_judge.specs.Judgement.{HasNoTheory, IsAttacked, IsRefused}
 use Rattle.dps_judge.specs.LawsOfTexts.{NoTextHasTheoryAndNone, NoTextIsRefusedAndJudged, NoTextIsEquivalentAndAttacked}
-use Rattle.deepsec_main.specs.declared.command.Command.{Command}
-use Rattle.deepsec_main.specs.declared.command.Command.TheVariants.{Check, Theory}
+use Rattle.dps_words.specs.declared.command.Command.{Command}
+use Rattle.dps_words.specs.declared.command.Command.TheVariants.{Check, Theory, Gen}
 use Rattle.deepsec_main.specs.declared.outcome.Outcome.{Outcome}
-use Rattle.deepsec_main.specs.declared.outcome.Outcome.TheVariants.{Equivalent, NotEquivalent, TheoryAccepted, Refused, Stopped, NoMemory}
+use Rattle.deepsec_main.specs.declared.outcome.Outcome.TheVariants.{Equivalent, NotEquivalent, TheoryAccepted, Generated, Refused, Stopped, NoMemory}
 use Rattle.deepsec_main.specs.declared.outcome.StopName.TheVariants.{TooLong, OpenFault, ReadFault, WordsRefused}
-use Rattle.deepsec_main.specs.Words.{word_at, HasNoPlan, plan_model}
+use Rattle.dps_words.specs.Words.{word_at, Asks, AsksToGenerate, HasPlan, HasNoPlan, plan_model}
 use Rattle.deepsec_main.specs.Reports.{status_of}
-use Rattle.deepsec_main.specs.Answers.{limit, IsRefusedSomewhere, HasNoTheorySomewhere, AsksOfWord, IsRead, HasReadText, IsTooLong, IsCaused, IsReported, NothingFails, NamesText, IsComplete}
-use Rattle.deepsec_main.proofs.Planning.{words_differ}
+use Rattle.deepsec_main.specs.Answers.{limit, IsRefusedSomewhere, HasNoTheorySomewhere, IsOfFile, AsksOfWord, IsRead, HasReadText, IsTooLong, IsCaused, IsReported, NothingFails, NamesText, IsComplete}
+use Rattle.dps_words.proofs.Planning.{words_differ, check_or_gen, theory_or_gen}
 
 -- no text has two of these verdicts, in one model
 pub record IsOneVerdict (model : Model) : Type 0 where
@@ -47,6 +47,14 @@ module _ (words : List (List ℕ)) where
 
   pub one_command : (m n : ℕ) → AsksOfWord words Check m → AsksOfWord words Theory n → ⊥
   one_command m n p q = words_differ (let e = p.0.all in let d = q.0.all in cc)
+
+  pub made_of_no_file : (command : Command) (n number : ℕ) → IsOfFile command → AsksOfWord words command n → AsksToGenerate words number → ⊥
+  made_of_no_file Check n number f p g = check_or_gen (let e = p.0.all in let d = g.all in cc)
+  made_of_no_file Theory n number f p g = theory_or_gen (let e = p.0.all in let d = g.all in cc)
+  made_of_no_file Gen n number f p g = absurd f
+
+  pub made_plan : (number : ℕ) → AsksToGenerate words number → HasPlan words Gen (2 ∷ [])
+  made_plan number g = ((number, g), refl)
 
 abbrev pub place_at : ℕ → ℕ → Place
 place_at line column = record { line = line; column = column }
@@ -83,7 +91,7 @@ module _ (old new : FilesState) (words : List (List ℕ)) (one : IsOneVerdict (p
 
   told_longer : (command : Command) (bytes : List ℕ) (number : ℕ) → Named command bytes → IsTooLong old new words number → limit < length bytes
   told_longer command bytes number n r =
-      let same : number ≡ n.number = one_file words r.planned.0 command number n.number r.planned.1 n.planned in
+      let same : number ≡ n.number = one_file words r.planned.0 command number n.number r.planned.2 n.planned in
       let is : old.told (word_at words number) ≡ Some bytes = ap (λ m. old.told (word_at words m)) same ∙ n.is_told in
       subst (λ (o : Option (List ℕ)). IfSome o (λ b. limit < length b)) is r.longer
 
@@ -94,6 +102,7 @@ module _ (old new : FilesState) (words : List (List ℕ)) (one : IsOneVerdict (p
   equivalent_status Equivalent bytes n l m f c = inl refl
   equivalent_status (NotEquivalent trace) bytes n l m f c = absurd (one.not_attacked bytes (string_bytes trace) m (told_read Check bytes c.0 (λ b. IsAttacked model b (string_bytes trace)) n c.1))
   equivalent_status (TheoryAccepted rules) bytes n l m f c = absurd (one_command words n.number c.0 n.planned c.1.planned)
+  equivalent_status (Generated text) bytes n l m f c = absurd (made_of_no_file words Check n.number c.number tt n.planned c.planned)
   equivalent_status (Refused file line column cause) bytes n l m f (inl c) =
       absurd (one.equivalent_unrefused bytes (string_bytes cause) (place_at line column) m (told_read Check bytes file (λ b. IsRefused b (place_at line column) (string_bytes cause)) n c))
   equivalent_status (Refused file line column cause) bytes n l m f (inr c) = absurd (one_command words n.number file n.planned c.planned)
@@ -109,6 +118,7 @@ module _ (old new : FilesState) (words : List (List ℕ)) (one : IsOneVerdict (p
   different_status Equivalent bytes n l m f c = absurd (one.not_different bytes (told_read Check bytes c.0 (MeansEquivalent model) n c.1) m)
   different_status (NotEquivalent trace) bytes n l m f c = inl refl
   different_status (TheoryAccepted rules) bytes n l m f c = absurd (one_command words n.number c.0 n.planned c.1.planned)
+  different_status (Generated text) bytes n l m f c = absurd (made_of_no_file words Check n.number c.number tt n.planned c.planned)
   different_status (Refused file line column cause) bytes n l m f (inl c) =
       absurd (one.different_unrefused bytes (string_bytes cause) (place_at line column) m (told_read Check bytes file (λ b. IsRefused b (place_at line column) (string_bytes cause)) n c))
   different_status (Refused file line column cause) bytes n l m f (inr c) = absurd (one_command words n.number file n.planned c.planned)
@@ -125,6 +135,7 @@ module _ (old new : FilesState) (words : List (List ℕ)) (one : IsOneVerdict (p
   refused_status (NotEquivalent trace) bytes n l m f c =
       absurd (one.attacked_unrefused bytes (string_bytes trace) m.1.0 m.0 (told_read Check bytes c.0 (λ b. IsAttacked model b (string_bytes trace)) n c.1) m.1.1)
   refused_status (TheoryAccepted rules) bytes n l m f c = absurd (one_command words n.number c.0 n.planned c.1.planned)
+  refused_status (Generated text) bytes n l m f c = absurd (made_of_no_file words Check n.number c.number tt n.planned c.planned)
   refused_status (Refused file line column cause) bytes n l m f c = inl refl
   refused_status (Stopped TooLong word) bytes n l m f c = absurd (let k = told_longer Check bytes word n c in omega arith)
   refused_status (Stopped OpenFault word) bytes n l m f c = absurd (f.no_open_fault c.rose)
@@ -139,6 +150,7 @@ module _ (old new : FilesState) (words : List (List ℕ)) (one : IsOneVerdict (p
   accepted_status Equivalent bytes rules n l m f c = inl refl
   accepted_status (NotEquivalent trace) bytes rules n l m f c = absurd (one_command words c.0 n.number c.1.planned n.planned)
   accepted_status (TheoryAccepted count) bytes rules n l m f c = inl refl
+  accepted_status (Generated text) bytes rules n l m f c = inl refl
   accepted_status (Refused file line column cause) bytes rules n l m f (inl c) = absurd (one_command words file n.number c.planned n.planned)
   accepted_status (Refused file line column cause) bytes rules n l m f (inr c) =
       absurd (one.theory_or_none bytes (string_bytes cause) (place_at line column) rules m (told_read Theory bytes file (λ b. HasNoTheory b (place_at line column) (string_bytes cause)) n c))
@@ -154,6 +166,7 @@ module _ (old new : FilesState) (words : List (List ℕ)) (one : IsOneVerdict (p
   unruled_status Equivalent bytes n l m f c = absurd (one_command words c.0 n.number c.1.planned n.planned)
   unruled_status (NotEquivalent trace) bytes n l m f c = absurd (one_command words c.0 n.number c.1.planned n.planned)
   unruled_status (TheoryAccepted rules) bytes n l m f c = absurd (one.theory_or_none bytes m.1.0 m.0 rules (told_read Theory bytes c.0 (λ b. MeansTheory b rules) n c.1) m.1.1)
+  unruled_status (Generated text) bytes n l m f c = absurd (made_of_no_file words Theory n.number c.number tt n.planned c.planned)
   unruled_status (Refused file line column cause) bytes n l m f c = inl refl
   unruled_status (Stopped TooLong word) bytes n l m f c = absurd (let k = told_longer Theory bytes word n c in omega arith)
   unruled_status (Stopped OpenFault word) bytes n l m f c = absurd (f.no_open_fault c.rose)
@@ -164,29 +177,44 @@ module _ (old new : FilesState) (words : List (List ℕ)) (one : IsOneVerdict (p
   never_long : (command other : Command) (bytes : List ℕ) (number : ℕ) (P : List ℕ → Type 0) → Named command bytes → limit < length bytes → Read other number P → ⊥
   never_long command other bytes number P n l r = let k = told_short command other bytes number P n r in omega arith
 
-  long_status : (outcome : Outcome) (command : Command) (bytes : List ℕ) → Named command bytes → limit < length bytes → Faultless → Cause outcome → (status_of outcome ≡ 8) ⊎ (outcome ≡ NoMemory)
-  long_status Equivalent command bytes n l f c = absurd (never_long command Check bytes c.0 (MeansEquivalent model) n l c.1)
-  long_status (NotEquivalent trace) command bytes n l f c = absurd (never_long command Check bytes c.0 (λ b. IsAttacked model b (string_bytes trace)) n l c.1)
-  long_status (TheoryAccepted rules) command bytes n l f c = absurd (never_long command Theory bytes c.0 (λ b. MeansTheory b rules) n l c.1)
-  long_status (Refused file line column cause) command bytes n l f (inl c) = absurd (never_long command Check bytes file (λ b. IsRefused b (place_at line column) (string_bytes cause)) n l c)
-  long_status (Refused file line column cause) command bytes n l f (inr c) = absurd (never_long command Theory bytes file (λ b. HasNoTheory b (place_at line column) (string_bytes cause)) n l c)
-  long_status (Stopped TooLong word) command bytes n l f c = inl refl
-  long_status (Stopped OpenFault word) command bytes n l f c = absurd (f.no_open_fault c.rose)
-  long_status (Stopped ReadFault word) command bytes n l f c = absurd (f.no_read_fault c.rose)
-  long_status (Stopped WordsRefused word) command bytes n l f c = absurd (c.first_wrong.no_plan command (n.number ∷ []) n.planned)
-  long_status NoMemory command bytes n l f c = inr refl
+  made_status : (outcome : Outcome) (number : ℕ) → AsksToGenerate words number → Faultless → Cause outcome → (status_of outcome ≡ 0) ⊎ (outcome ≡ NoMemory)
+  made_status Equivalent number g f c = inl refl
+  made_status (NotEquivalent trace) number g f c = absurd (made_of_no_file words Check c.0 number tt c.1.planned g)
+  made_status (TheoryAccepted rules) number g f c = inl refl
+  made_status (Generated text) number g f c = inl refl
+  made_status (Refused file line column cause) number g f (inl c) = absurd (made_of_no_file words Check file number tt c.planned g)
+  made_status (Refused file line column cause) number g f (inr c) = absurd (made_of_no_file words Theory file number tt c.planned g)
+  made_status (Stopped TooLong word) number g f c = absurd (made_of_no_file words c.planned.0 word number c.planned.1 c.planned.2 g)
+  made_status (Stopped OpenFault word) number g f c = absurd (f.no_open_fault c.rose)
+  made_status (Stopped ReadFault word) number g f c = absurd (f.no_read_fault c.rose)
+  made_status (Stopped WordsRefused word) number g f c = absurd (c.first_wrong.no_plan Gen (2 ∷ []) (made_plan words number g))
+  made_status NoMemory number g f c = inr refl
+
+  long_status : (outcome : Outcome) (command : Command) (bytes : List ℕ) → IsOfFile command → Named command bytes → limit < length bytes → Faultless → Cause outcome → (status_of outcome ≡ 8) ⊎ (outcome ≡ NoMemory)
+  long_status Equivalent command bytes o n l f c = absurd (never_long command Check bytes c.0 (MeansEquivalent model) n l c.1)
+  long_status (NotEquivalent trace) command bytes o n l f c = absurd (never_long command Check bytes c.0 (λ b. IsAttacked model b (string_bytes trace)) n l c.1)
+  long_status (TheoryAccepted rules) command bytes o n l f c = absurd (never_long command Theory bytes c.0 (λ b. MeansTheory b rules) n l c.1)
+  long_status (Generated text) command bytes o n l f c = absurd (made_of_no_file words command n.number c.number o n.planned c.planned)
+  long_status (Refused file line column cause) command bytes o n l f (inl c) = absurd (never_long command Check bytes file (λ b. IsRefused b (place_at line column) (string_bytes cause)) n l c)
+  long_status (Refused file line column cause) command bytes o n l f (inr c) = absurd (never_long command Theory bytes file (λ b. HasNoTheory b (place_at line column) (string_bytes cause)) n l c)
+  long_status (Stopped TooLong word) command bytes o n l f c = inl refl
+  long_status (Stopped OpenFault word) command bytes o n l f c = absurd (f.no_open_fault c.rose)
+  long_status (Stopped ReadFault word) command bytes o n l f c = absurd (f.no_read_fault c.rose)
+  long_status (Stopped WordsRefused word) command bytes o n l f c = absurd (c.first_wrong.no_plan command (n.number ∷ []) n.planned)
+  long_status NoMemory command bytes o n l f c = inr refl
 
   planless_status : (outcome : Outcome) → HasNoPlan words → Cause outcome → status_of outcome ≡ 7
   planless_status Equivalent n c = absurd (n Check (c.0 ∷ []) c.1.planned)
   planless_status (NotEquivalent trace) n c = absurd (n Check (c.0 ∷ []) c.1.planned)
   planless_status (TheoryAccepted rules) n c = absurd (n Theory (c.0 ∷ []) c.1.planned)
+  planless_status (Generated text) n c = absurd (n Gen (2 ∷ []) (made_plan words c.number c.planned))
   planless_status (Refused file line column cause) n (inl c) = absurd (n Check (file ∷ []) c.planned)
   planless_status (Refused file line column cause) n (inr c) = absurd (n Theory (file ∷ []) c.planned)
-  planless_status (Stopped TooLong word) n c = absurd (n c.planned.0 (word ∷ []) c.planned.1)
-  planless_status (Stopped OpenFault word) n c = absurd (n c.planned.0 (word ∷ []) c.planned.1)
-  planless_status (Stopped ReadFault word) n c = absurd (n c.planned.0 (word ∷ []) c.planned.1)
+  planless_status (Stopped TooLong word) n c = absurd (n c.planned.0 (word ∷ []) c.planned.2)
+  planless_status (Stopped OpenFault word) n c = absurd (n c.planned.0 (word ∷ []) c.planned.2)
+  planless_status (Stopped ReadFault word) n c = absurd (n c.planned.0 (word ∷ []) c.planned.2)
   planless_status (Stopped WordsRefused word) n c = refl
-  planless_status NoMemory n c = absurd (n c.planned.0 (c.number ∷ []) c.planned.1)
+  planless_status NoMemory n c = absurd (n c.planned.0 c.planned.1 c.planned.2)
 
   status_or : (outcome : Outcome) (status want : ℕ) → status ≡ status_of outcome → (status_of outcome ≡ want) ⊎ (outcome ≡ NoMemory) → (status ≡ want) ⊎ (status ≡ status_of NoMemory)
   status_or outcome status want e (inl s) = inl (e ∙ s)
@@ -200,6 +228,7 @@ module _ (old new : FilesState) (words : List (List ℕ)) (one : IsOneVerdict (p
       refused = λ bytes n l m f. status_or outcome status 3 (own f.no_write_fault) (refused_status outcome bytes n l m f c);
       theory_accepted = λ bytes rules n l m f. status_or outcome status 0 (own f.no_write_fault) (accepted_status outcome bytes rules n l m f c);
       theory_refused = λ bytes n l m f. status_or outcome status 3 (own f.no_write_fault) (unruled_status outcome bytes n l m f c);
-      too_long = λ bytes command n l f. status_or outcome status 8 (own f.no_write_fault) (long_status outcome command bytes n l f c);
+      generated = λ number g f. status_or outcome status 0 (own f.no_write_fault) (made_status outcome number g f c);
+      too_long = λ bytes command o n l f. status_or outcome status 8 (own f.no_write_fault) (long_status outcome command bytes o n l f c);
       words_refused = λ n w. own w ∙ planless_status outcome n c;
     }

@@ -1,4 +1,3 @@
-pub mod Planning
 pub mod Completing
 pub mod Reporting
 pub mod Reading

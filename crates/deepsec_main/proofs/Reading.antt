@@ -5,8 +5,8 @@ use Rattle.std.specs.declared.alloc.Global.{Global}
 use Rattle.dps_io.specs.Files.{FilesState}
 use Rattle.dps_lex.specs.declared.vocabulary.Place.{Place}
 use Rattle.dps_judge.specs.Judgement.{HasNoTheory, IsRefused}
-use Rattle.deepsec_main.specs.declared.command.Command.{Command}
-use Rattle.deepsec_main.specs.declared.command.Command.TheVariants.{Check, Theory}
+use Rattle.dps_words.specs.declared.command.Command.{Command}
+use Rattle.dps_words.specs.declared.command.Command.TheVariants.{Check, Theory}
 use Rattle.deepsec_main.specs.declared.outcome.Outcome.{Outcome}
 use Rattle.deepsec_main.specs.declared.outcome.Outcome.TheVariants.{Refused}
 use Rattle.deepsec_main.specs.Answers.{AsksOfWord, IsRead, HasReadText, IsCaused}

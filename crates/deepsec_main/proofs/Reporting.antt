@@ -4,18 +4,19 @@ use Rattle.std.specs.Prelude.{string_bytes}
 use Rattle.std.specs.Io.KnownBytes.{append_known}
 use Rattle.dps_io.specs.Counts.{Rose}
 use Rattle.dps_io.specs.Files.{FilesState}
+use Rattle.dps_gen.specs.Generated.{generated_text}
 use Rattle.dps_meaning.specs.Meaning.{MeansTheory}
 use Rattle.dps_judge.specs.Meaning.{MeansEquivalent}
 use Rattle.dps_judge.specs.Judgement.{HasNoTheory, IsAttacked, IsRefused}
-use Rattle.deepsec_main.specs.declared.command.Command.{Command}
-use Rattle.deepsec_main.specs.declared.command.Command.TheVariants.{Check, Theory}
+use Rattle.dps_words.specs.declared.command.Command.{Command}
+use Rattle.dps_words.specs.declared.command.Command.TheVariants.{Check, Theory, Gen}
 use Rattle.deepsec_main.specs.declared.outcome.Outcome.{Outcome}
-use Rattle.deepsec_main.specs.declared.outcome.Outcome.TheVariants.{Equivalent, NotEquivalent, TheoryAccepted, Refused, Stopped, NoMemory}
+use Rattle.deepsec_main.specs.declared.outcome.Outcome.TheVariants.{Equivalent, NotEquivalent, TheoryAccepted, Generated, Refused, Stopped, NoMemory}
 use Rattle.deepsec_main.specs.declared.outcome.StopName.TheVariants.{TooLong, OpenFault, ReadFault, WordsRefused}
-use Rattle.deepsec_main.specs.Words.{HasNoPlan, IsFirstWrong, plan_model}
+use Rattle.dps_words.specs.Words.{Asks, AsksToGenerate, HasNoPlan, IsFirstWrong, plan_model}
 use Rattle.deepsec_main.specs.Reports.{report_text, status_of, attack_report, theory_report, NeedsMemory}
 use Rattle.deepsec_main.specs.Answers.{AsksOfWord, HasReadText, IsRefusedText, IsFaultless, IsTooLong, IsOutOfMemory, IsCaused, IsReported, IsUsed, untouched, read_once, FollowsCounts}
-use Rattle.deepsec_main.proofs.Completing.{one_file, one_command, place_at}
+use Rattle.deepsec_main.proofs.Completing.{one_file, one_command, made_of_no_file, made_plan, place_at}
 
 module _ (old new : FilesState) (words : List (List ℕ)) where
   abbrev Reads : Command → ℕ → (List ℕ → Type 0) → Type 0
@@ -29,6 +30,7 @@ module _ (old new : FilesState) (words : List (List ℕ)) where
   equivalent_read Equivalent file c p e = subst (λ k. Reads Check k (MeansEquivalent (plan_model words))) (one_file words Check Check c.0 file c.1.planned p) c.1
   equivalent_read (NotEquivalent trace) file c p e = absurd (omega (arith, e))
   equivalent_read (TheoryAccepted rules) file c p e = absurd (one_command words file c.0 p c.1.planned)
+  equivalent_read (Generated text) file c p e = absurd (made_of_no_file words Check file c.number tt p c.planned)
   equivalent_read (Refused named line column cause) file c p e = absurd (omega (arith, e))
   equivalent_read (Stopped TooLong word) file c p e = absurd (omega (arith, e))
   equivalent_read (Stopped OpenFault word) file c p e = absurd (omega (arith, e))
@@ -44,12 +46,29 @@ module _ (old new : FilesState) (words : List (List ℕ)) where
   theory_read Equivalent file c p e = absurd (one_command words c.0 file c.1.planned p)
   theory_read (NotEquivalent trace) file c p e = absurd (omega (arith, e))
   theory_read (TheoryAccepted rules) file c p e = (rules, subst (λ k. Reads Theory k (λ bytes. MeansTheory bytes rules)) (one_file words Theory Theory c.0 file c.1.planned p) c.1, refl)
+  theory_read (Generated text) file c p e = absurd (made_of_no_file words Theory file c.number tt p c.planned)
   theory_read (Refused named line column cause) file c p e = absurd (omega (arith, e))
   theory_read (Stopped TooLong word) file c p e = absurd (omega (arith, e))
   theory_read (Stopped OpenFault word) file c p e = absurd (omega (arith, e))
   theory_read (Stopped ReadFault word) file c p e = absurd (omega (arith, e))
   theory_read (Stopped WordsRefused word) file c p e = absurd (omega (arith, e))
   theory_read NoMemory file c p e = absurd (omega (arith, e))
+
+  -- and of `gen`
+  abbrev IsMade : Outcome → Type 0
+  IsMade outcome = (number : ℕ) × AsksToGenerate words number × (report_text outcome ≡ generated_text number)
+
+  made_read : (outcome : Outcome) (number : ℕ) → Caused outcome → AsksToGenerate words number → status_of outcome ≡ 0 → IsMade outcome
+  made_read Equivalent number c g e = absurd (made_of_no_file words Check c.0 number tt c.1.planned g)
+  made_read (NotEquivalent trace) number c g e = absurd (omega (arith, e))
+  made_read (TheoryAccepted rules) number c g e = absurd (made_of_no_file words Theory c.0 number tt c.1.planned g)
+  made_read (Generated text) number c g e = (c.number, c.planned, c.made)
+  made_read (Refused file line column cause) number c g e = absurd (omega (arith, e))
+  made_read (Stopped TooLong word) number c g e = absurd (omega (arith, e))
+  made_read (Stopped OpenFault word) number c g e = absurd (omega (arith, e))
+  made_read (Stopped ReadFault word) number c g e = absurd (omega (arith, e))
+  made_read (Stopped WordsRefused word) number c g e = absurd (omega (arith, e))
+  made_read NoMemory number c g e = absurd (omega (arith, e))
 
   -- status 1 is that of an attack
   abbrev IsAttackRead : Outcome → Type 0
@@ -59,6 +78,7 @@ module _ (old new : FilesState) (words : List (List ℕ)) where
   attack_read Equivalent c e = absurd (omega (arith, e))
   attack_read (NotEquivalent trace) c e = (c.0, (string_bytes trace, c.1, refl))
   attack_read (TheoryAccepted rules) c e = absurd (omega (arith, e))
+  attack_read (Generated text) c e = absurd (omega (arith, e))
   attack_read (Refused file line column cause) c e = absurd (omega (arith, e))
   attack_read (Stopped TooLong word) c e = absurd (omega (arith, e))
   attack_read (Stopped OpenFault word) c e = absurd (omega (arith, e))
@@ -78,6 +98,7 @@ module _ (old new : FilesState) (words : List (List ℕ)) where
   refused_read Equivalent c e = absurd (omega (arith, e))
   refused_read (NotEquivalent trace) c e = absurd (omega (arith, e))
   refused_read (TheoryAccepted rules) c e = absurd (omega (arith, e))
+  refused_read (Generated text) c e = absurd (omega (arith, e))
   refused_read (Refused file line column cause) c e = (file, some_refusal file line column (string_bytes cause) c)
   refused_read (Stopped TooLong word) c e = absurd (omega (arith, e))
   refused_read (Stopped OpenFault word) c e = absurd (omega (arith, e))
@@ -90,6 +111,7 @@ module _ (old new : FilesState) (words : List (List ℕ)) where
   words_read Equivalent c e = absurd (omega (arith, e))
   words_read (NotEquivalent trace) c e = absurd (omega (arith, e))
   words_read (TheoryAccepted rules) c e = absurd (omega (arith, e))
+  words_read (Generated text) c e = absurd (omega (arith, e))
   words_read (Refused file line column cause) c e = absurd (omega (arith, e))
   words_read (Stopped TooLong word) c e = absurd (omega (arith, e))
   words_read (Stopped OpenFault word) c e = absurd (omega (arith, e))
@@ -101,6 +123,7 @@ module _ (old new : FilesState) (words : List (List ℕ)) where
   long_read Equivalent c e = absurd (omega (arith, e))
   long_read (NotEquivalent trace) c e = absurd (omega (arith, e))
   long_read (TheoryAccepted rules) c e = absurd (omega (arith, e))
+  long_read (Generated text) c e = absurd (omega (arith, e))
   long_read (Refused file line column cause) c e = absurd (omega (arith, e))
   long_read (Stopped TooLong word) c e = (word, c)
   long_read (Stopped OpenFault word) c e = absurd (omega (arith, e))
@@ -121,6 +144,7 @@ module _ (old new : FilesState) (words : List (List ℕ)) where
   counted Equivalent c = inr c.1.read.faultless
   counted (NotEquivalent trace) c = inr c.1.read.faultless
   counted (TheoryAccepted rules) c = inr c.1.read.faultless
+  counted (Generated text) c = inr (untouched_faultless c.untouched)
   counted (Refused file line column cause) (inl c) = inr c.read.faultless
   counted (Refused file line column cause) (inr c) = inr c.read.faultless
   counted (Stopped TooLong word) c = inr c.faultless
@@ -133,6 +157,7 @@ module _ (old new : FilesState) (words : List (List ℕ)) where
   not_five Equivalent e = omega (arith, e)
   not_five (NotEquivalent trace) e = omega (arith, e)
   not_five (TheoryAccepted rules) e = omega (arith, e)
+  not_five (Generated text) e = omega (arith, e)
   not_five (Refused file line column cause) e = omega (arith, e)
   not_five (Stopped TooLong word) e = omega (arith, e)
   not_five (Stopped OpenFault word) e = omega (arith, e)
@@ -145,6 +170,7 @@ module _ (old new : FilesState) (words : List (List ℕ)) where
   not_four Equivalent f c e = absurd (omega (arith, e))
   not_four (NotEquivalent trace) f c e = absurd (omega (arith, e))
   not_four (TheoryAccepted rules) f c e = absurd (omega (arith, e))
+  not_four (Generated text) f c e = absurd (omega (arith, e))
   not_four (Refused file line column cause) f c e = absurd (omega (arith, e))
   not_four (Stopped TooLong word) f c e = absurd (omega (arith, e))
   not_four (Stopped OpenFault word) f c e = inl c.rose
@@ -167,27 +193,29 @@ module _ (old new : FilesState) (words : List (List ℕ)) where
 
   -- how the files were used
   used : (outcome : Outcome) → Caused outcome → IsUsed old new words
-  used Equivalent c = read_once c.0 (Check, c.1.planned) c.1.read.once
-  used (NotEquivalent trace) c = read_once c.0 (Check, c.1.planned) c.1.read.once
-  used (TheoryAccepted rules) c = read_once c.0 (Theory, c.1.planned) c.1.read.once
-  used (Refused file line column cause) (inl c) = read_once file (Check, c.planned) c.read.once
-  used (Refused file line column cause) (inr c) = read_once file (Theory, c.planned) c.read.once
+  used Equivalent c = read_once c.0 (Check, tt, c.1.planned) c.1.read.once
+  used (NotEquivalent trace) c = read_once c.0 (Check, tt, c.1.planned) c.1.read.once
+  used (TheoryAccepted rules) c = read_once c.0 (Theory, tt, c.1.planned) c.1.read.once
+  used (Generated text) c = untouched c.untouched
+  used (Refused file line column cause) (inl c) = read_once file (Check, tt, c.planned) c.read.once
+  used (Refused file line column cause) (inr c) = read_once file (Theory, tt, c.planned) c.read.once
   used (Stopped TooLong word) c = read_once word c.planned c.once
   used (Stopped OpenFault word) c = read_once word c.planned c.once
   used (Stopped ReadFault word) c = read_once word c.planned c.once
   used (Stopped WordsRefused word) c = untouched c.untouched
-  used NoMemory c = elim c.used [ inl e ↦ untouched e | inr o ↦ read_once c.number c.planned o ]
+  used NoMemory c = elim c.used [ inl e ↦ untouched e | inr r ↦ read_once r.0 r.1 r.2 ]
 
   unused : (outcome : Outcome) → Caused outcome → HasNoPlan words → new ≡ old
-  unused outcome c n = elim (used outcome c) [ untouched e ↦ e | read_once number named o ↦ absurd (n named.0 (number ∷ []) named.1) ]
+  unused outcome c n = elim (used outcome c) [ untouched e ↦ e | read_once number named o ↦ absurd (n named.0 (number ∷ []) named.2) ]
 
   -- an outcome whose text finds no memory
   out_of_memory : (outcome : Outcome) → NeedsMemory outcome → Caused outcome → IsOutOfMemory old new words
   out_of_memory Equivalent n c = absurd n
-  out_of_memory (NotEquivalent trace) n c = record { number = c.0; planned = (Check, c.1.planned); used = inr c.1.read.once; faultless = c.1.read.faultless }
+  out_of_memory (NotEquivalent trace) n c = record { planned = (Check, c.0 ∷ [], c.1.planned); used = inr (c.0, (Check, tt, c.1.planned), c.1.read.once); faultless = c.1.read.faultless }
   out_of_memory (TheoryAccepted rules) n c = absurd n
-  out_of_memory (Refused file line column cause) n (inl c) = record { number = file; planned = (Check, c.planned); used = inr c.read.once; faultless = c.read.faultless }
-  out_of_memory (Refused file line column cause) n (inr c) = record { number = file; planned = (Theory, c.planned); used = inr c.read.once; faultless = c.read.faultless }
+  out_of_memory (Generated text) n c = record { planned = (Gen, 2 ∷ [], made_plan words c.number c.planned); used = inl c.untouched; faultless = untouched_faultless c.untouched }
+  out_of_memory (Refused file line column cause) n (inl c) = record { planned = (Check, file ∷ [], c.planned); used = inr (file, (Check, tt, c.planned), c.read.once); faultless = c.read.faultless }
+  out_of_memory (Refused file line column cause) n (inr c) = record { planned = (Theory, file ∷ [], c.planned); used = inr (file, (Theory, tt, c.planned), c.read.once); faultless = c.read.faultless }
   out_of_memory (Stopped name word) n c = absurd n
   out_of_memory NoMemory n c = absurd n
 
@@ -218,6 +246,12 @@ module _ (old new : FilesState) (words : List (List ℕ)) where
     theory_only file p e =
         let s = sent (λ d. omega (arith, d, e)) in
         let t = theory_read outcome file c p (s.own ∙ e) in
+        (t.0, t.1, s.whole ∙ ap (append_known (written before)) t.2)
+
+    pub made_only : Asks words Gen → status ≡ 0 → (number : ℕ) × AsksToGenerate words number × (written after ≡ append_known (written before) (generated_text number))
+    made_only g e =
+        let s = sent (λ d. omega (arith, d, e)) in
+        let t = made_read outcome g.0 c g.1 (s.own ∙ e) in
         (t.0, t.1, s.whole ∙ ap (append_known (written before)) t.2)
 
     pub attack_only :

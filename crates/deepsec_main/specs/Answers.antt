@@ -1,20 +1,21 @@
 -- The outcomes and their causes, in a run from the files as they were, `old`, to the files as they are, `new`.
-use Rattle.std.specs.Prelude.{◌≡◌, ◌⊎◌, ℕ, ◌+◌, ◌<◌, ◌≤◌, List, [], ◌∷◌, length, Option, Some, IfSome, string_bytes}
+use Rattle.std.specs.Prelude.{◌≡◌, ◌⊎◌, ℕ, ◌+◌, ◌<◌, ◌≤◌, List, [], ◌∷◌, length, Option, Some, IfSome, string_bytes, ⊤}
 use Rattle.std.specs.Io.KnownBytes.{append_known}
 use Rattle.dps_io.specs.Counts.{Rose, CountsCall}
 use Rattle.dps_io.specs.Bytes.{TellsTheSame, AppendsFront}
 use Rattle.dps_io.specs.Files.{FilesState}
+use Rattle.dps_gen.specs.Generated.{generated_text}
 use Rattle.dps_lex.specs.declared.vocabulary.Place.{Place}
 use Rattle.dps_meaning.specs.Meaning.{MeansTheory}
 use Rattle.dps_judge.specs.Meaning.{MeansEquivalent, MeansDifferent}
 use Rattle.dps_judge.specs.Judgement.{HasNoTheory, IsAttacked, IsRefused}
-use Rattle.deepsec_main.specs.declared.command.Command.{Command}
-use Rattle.deepsec_main.specs.declared.command.Command.TheVariants.{Check, Theory}
+use Rattle.dps_words.specs.declared.command.Command.{Command}
+use Rattle.dps_words.specs.declared.command.Command.TheVariants.{Check, Theory, Gen}
 use Rattle.deepsec_main.specs.declared.outcome.Outcome.{Outcome}
-use Rattle.deepsec_main.specs.declared.outcome.Outcome.TheVariants.{Equivalent, NotEquivalent, TheoryAccepted, Refused, Stopped, NoMemory}
+use Rattle.deepsec_main.specs.declared.outcome.Outcome.TheVariants.{Equivalent, NotEquivalent, TheoryAccepted, Generated, Refused, Stopped, NoMemory}
 use Rattle.deepsec_main.specs.declared.outcome.StopName.{StopName}
 use Rattle.deepsec_main.specs.declared.outcome.StopName.TheVariants.{TooLong, OpenFault, ReadFault, WordsRefused}
-use Rattle.deepsec_main.specs.Words.{word_at, HasPlan, HasNoPlan, IsFirstWrong, plan_model}
+use Rattle.dps_words.specs.Words.{word_at, AsksToGenerate, HasPlan, HasNoPlan, IsFirstWrong, plan_model}
 use Rattle.deepsec_main.specs.Reports.{report_text, status_of}
 
 -- the most bytes of a file
@@ -33,9 +34,19 @@ HasNoTheorySomewhere bytes = (place : Place) × ((cause : List ℕ) × HasNoTheo
 abbrev pub AsksOfWord : List (List ℕ) → Command → ℕ → Type 0
 AsksOfWord words command number = HasPlan words command (number ∷ [])
 
+-- the command reads a file
+abbrev pub IsOfFile : Command → Type 0
+IsOfFile Check = ⊤
+IsOfFile Theory = ⊤
+IsOfFile Gen = ⊥
+
 -- they ask for something of this file
 abbrev pub NamesWord : List (List ℕ) → ℕ → Type 0
-NamesWord words number = (command : Command) × AsksOfWord words command number
+NamesWord words number = (command : Command) × IsOfFile command × AsksOfWord words command number
+
+-- they ask for something
+abbrev pub IsPlanned : List (List ℕ) → Type 0
+IsPlanned words = (command : Command) × (numbers : List ℕ) × HasPlan words command numbers
 
 -- Some file was opened, by one call, and read, by at most so many calls as there are bytes up to the limit, and two.
 pub record IsReadOnce (old new : FilesState) : Type 0 where
@@ -96,18 +107,29 @@ IsStopped old new words OpenFault word = HasFault old new (λ files. files.open_
 IsStopped old new words ReadFault word = HasFault old new (λ files. files.read_faults) (λ files. files.open_faults) words word
 IsStopped old new words WordsRefused word = AreRefused old new words word
 
--- There was no memory: for what the words ask for, which name a file, and not in place of a fault.
+-- the words name a file, which was read
+abbrev pub ReadsNamed : FilesState → FilesState → List (List ℕ) → Type 0
+ReadsNamed old new words = (number : ℕ) × NamesWord words number × IsReadOnce old new
+
+-- There was no memory: for what the words ask for, and not in place of a fault.
 pub record IsOutOfMemory (old new : FilesState) (words : List (List ℕ)) : Type 0 where
-  pub number : ℕ
-  pub planned : NamesWord words number
-  pub used : (new ≡ old) ⊎ IsReadOnce old new
+  pub planned : IsPlanned words
+  pub used : (new ≡ old) ⊎ ReadsNamed old new words
   pub faultless : IsFaultless old new
+
+-- the words ask for the file of a number, and the text is that file; no file was touched
+pub record IsGenerated (old new : FilesState) (words : List (List ℕ)) (text : List ℕ) : Type 0 where
+  pub number : ℕ
+  pub planned : AsksToGenerate words number
+  pub made : text ≡ generated_text number
+  pub untouched : new ≡ old
 
 -- The cause of each outcome, in the run of these words.
 abbrev pub IsCaused : FilesState → FilesState → List (List ℕ) → Outcome → Type 0
 IsCaused old new words Equivalent = (number : ℕ) × HasReadText old new words Check number (MeansEquivalent (plan_model words))
 IsCaused old new words (NotEquivalent trace) = (number : ℕ) × HasReadText old new words Check number (λ bytes. IsAttacked (plan_model words) bytes (string_bytes trace))
 IsCaused old new words (TheoryAccepted rules) = (number : ℕ) × HasReadText old new words Theory number (λ bytes. MeansTheory bytes rules)
+IsCaused old new words (Generated text) = IsGenerated old new words (string_bytes text)
 IsCaused old new words (Refused file line column cause) =
     HasReadText old new words Check file (λ bytes. IsRefused bytes (record { line = line; column = column }) (string_bytes cause))
     ⊎ HasReadText old new words Theory file (λ bytes. HasNoTheory bytes (record { line = line; column = column }) (string_bytes cause))
@@ -176,5 +198,6 @@ module _ (old new : FilesState) (before after : ℕ) where
     pub refused : (bytes : List ℕ) → NamesText words Check bytes → length bytes ≤ limit → IsRefusedSomewhere bytes → NothingFails → IsOr status 3
     pub theory_accepted : (bytes : List ℕ) (rules : ℕ) → NamesText words Theory bytes → length bytes ≤ limit → MeansTheory bytes rules → NothingFails → IsOr status 0
     pub theory_refused : (bytes : List ℕ) → NamesText words Theory bytes → length bytes ≤ limit → HasNoTheorySomewhere bytes → NothingFails → IsOr status 3
-    pub too_long : (bytes : List ℕ) (command : Command) → NamesText words command bytes → limit < length bytes → NothingFails → IsOr status 8
+    pub generated : (number : ℕ) → AsksToGenerate words number → NothingFails → IsOr status 0
+    pub too_long : (bytes : List ℕ) (command : Command) → IsOfFile command → NamesText words command bytes → limit < length bytes → NothingFails → IsOr status 8
     pub words_refused : HasNoPlan words → ¬ Rose before after → status ≡ 7

@@ -2,7 +2,7 @@
 use Rattle.std.specs.Prelude.{ℕ, List, [], ◌∷◌, ◌++◌, codes, string_bytes, ⊤}
 use Rattle.std.specs.Fmt.{decimal}
 use Rattle.deepsec_main.specs.declared.outcome.Outcome.{Outcome}
-use Rattle.deepsec_main.specs.declared.outcome.Outcome.TheVariants.{Equivalent, NotEquivalent, TheoryAccepted, Refused, Stopped, NoMemory}
+use Rattle.deepsec_main.specs.declared.outcome.Outcome.TheVariants.{Equivalent, NotEquivalent, TheoryAccepted, Generated, Refused, Stopped, NoMemory}
 use Rattle.deepsec_main.specs.declared.report.ReportText.{ReportText}
 use Rattle.deepsec_main.specs.declared.report.ReportText.TheVariants.{Short, Long}
 use Rattle.deepsec_main.specs.declared.outcome.StopName.{StopName}
@@ -30,25 +30,26 @@ attack_lines trace = line (codes "result") (codes "not equivalent") (line (codes
 abbrev pub theory_lines : ℕ → List ℕ
 theory_lines rules = line (codes "result") (codes "theory accepted") (line (codes "rules") (decimal rules) [])
 
--- the lines behind the first
-abbrev pub outcome_lines : Outcome → List ℕ
-outcome_lines Equivalent = line (codes "result") (codes "equivalent") []
-outcome_lines (NotEquivalent trace) = attack_lines (string_bytes trace)
-outcome_lines (TheoryAccepted rules) = theory_lines rules
-outcome_lines (Refused file at column cause) =
-    line (codes "result") (codes "refused") (line (codes "file") (decimal file) (place_line at column (line (codes "cause") (string_bytes cause) [])))
-outcome_lines (Stopped name word) = line (codes "result") (stop_text name) (line (codes "word") (decimal word) [])
-outcome_lines NoMemory = line (codes "result") (codes "no memory") []
-
--- the one text of an outcome
-abbrev pub report_text : Outcome → List ℕ
-report_text outcome = codes "report 1" ++ (10 ∷ outcome_lines outcome)
+-- the first line, and those behind it
+abbrev pub report : List ℕ → List ℕ
+report lines = codes "report 1" ++ (10 ∷ lines)
 
 abbrev pub attack_report : List ℕ → List ℕ
-attack_report trace = codes "report 1" ++ (10 ∷ attack_lines trace)
+attack_report trace = report (attack_lines trace)
 
 abbrev pub theory_report : ℕ → List ℕ
-theory_report rules = codes "report 1" ++ (10 ∷ theory_lines rules)
+theory_report rules = report (theory_lines rules)
+
+-- The one text of an outcome: a report, or the file that was made.
+abbrev pub report_text : Outcome → List ℕ
+report_text Equivalent = report (line (codes "result") (codes "equivalent") [])
+report_text (NotEquivalent trace) = attack_report (string_bytes trace)
+report_text (TheoryAccepted rules) = theory_report rules
+report_text (Generated text) = string_bytes text
+report_text (Refused file at column cause) =
+    report (line (codes "result") (codes "refused") (line (codes "file") (decimal file) (place_line at column (line (codes "cause") (string_bytes cause) []))))
+report_text (Stopped name word) = report (line (codes "result") (stop_text name) (line (codes "word") (decimal word) []))
+report_text NoMemory = report (line (codes "result") (codes "no memory") [])
 
 abbrev pub stop_status : StopName → ℕ
 stop_status TooLong = 8
@@ -61,6 +62,7 @@ abbrev pub status_of : Outcome → ℕ
 status_of Equivalent = 0
 status_of (NotEquivalent trace) = 1
 status_of (TheoryAccepted rules) = 0
+status_of (Generated text) = 0
 status_of (Refused file at column cause) = 3
 status_of (Stopped name word) = stop_status name
 status_of NoMemory = 6
@@ -75,6 +77,7 @@ abbrev pub NeedsMemory : Outcome → Type 0
 NeedsMemory Equivalent = ⊥
 NeedsMemory (NotEquivalent trace) = ⊤
 NeedsMemory (TheoryAccepted rules) = ⊥
+NeedsMemory (Generated text) = ⊤
 NeedsMemory (Refused file at column cause) = ⊤
 NeedsMemory (Stopped name word) = ⊥
 NeedsMemory NoMemory = ⊥

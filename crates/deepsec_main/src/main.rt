@@ -1,13 +1,11 @@
 //! `deepsec`: checks whether the two processes of a file are trace equivalent, and whether its rules are accepted.
 #![tactic(auto)]
 
-mod command;
 mod outcome;
 mod report;
 mod run;
 #[cfg(test)]
 mod tests;
-mod words;
 
 use dps_io::{HostFiles, HostSink};
 use std::env;

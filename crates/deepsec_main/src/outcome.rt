@@ -13,6 +13,10 @@ pub enum Outcome {
     TheoryAccepted {
         rules: u32,
     },
+    /// The file that is made from a number, as a text.
+    Generated {
+        text: String,
+    },
     /// A file is refused, at this line and column, each counted from 1, for the cause with this text. The file is named by
     /// its word's number.
     Refused {

@@ -52,6 +52,7 @@ pub fn status(outcome: &Outcome) -> u8
         Outcome::Equivalent => 0,
         Outcome::NotEquivalent { .. } => 1,
         Outcome::TheoryAccepted { .. } => 0,
+        Outcome::Generated { .. } => 0,
         Outcome::Refused { .. } => 3,
         Outcome::Stopped { name, .. } => status_of_stop(*name),
         Outcome::NoMemory => 6,
@@ -103,7 +104,7 @@ fn fixed(bytes: &'static str) -> ShortText
     text
 }
 
-/// The one text of an outcome. An attack and a refused file have texts that take memory; no other has.
+/// The one text of an outcome. An attack, a file that is made and a refused file have texts that take memory; no other has.
 pub fn text(alloc: Global, outcome: &Outcome) -> Result<ReportText, AllocError>
     ensures text { IfOk result (λ text. text_bytes text ≡ report_text outcome.now) }
     ensures memory { IsErr result → NeedsMemory outcome.now }
@@ -114,6 +115,7 @@ pub fn text(alloc: Global, outcome: &Outcome) -> Result<ReportText, AllocError>
             "report 1\nresult: not equivalent\nnode: /\n{trace}"
         )?)),
         Outcome::TheoryAccepted { rules } => Ok(ReportText::Short(accepted(*rules))),
+        Outcome::Generated { text } => Ok(ReportText::Long(text.clone()?)),
         Outcome::Refused {
             file,
             line,

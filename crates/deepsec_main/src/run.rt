@@ -1,18 +1,18 @@
 //! The whole program, over the words, the files and the sink that it is given.
 ghost use Rattle.std.specs.Prelude.{◌≡◌, ◌⊎◌, ℕ, List, IfOk, IfErr};
 ghost use Rattle.std.specs.Io.KnownBytes.{append_known};
+ghost use Rattle.dps_gen.specs.Generated.{generated_text};
 ghost use Rattle.dps_meaning.specs.Meaning.{MeansTheory};
 ghost use Rattle.dps_judge.specs.Meaning.{MeansEquivalent};
 ghost use Rattle.dps_judge.specs.Judgement.{IsAttacked};
-ghost use Rattle.deepsec_main.specs.Words.{texts, plan_model, HasNoPlan, IsFirstWrong};
+ghost use Rattle.dps_words.specs.Words.{texts, plan_model, Asks, AsksToGenerate, HasNoPlan, IsFirstWrong};
 ghost use Rattle.deepsec_main.specs.Reports.{report_text, attack_report, theory_report, NeedsMemory};
 ghost use Rattle.deepsec_main.specs.Answers.{AsksOfWord, NamesWord, IsRead, HasReadText, IsTooLong, IsRefusedText, IsCaused, IsReported, IsUsed, AreKept, FollowsCounts, IsComplete};
 ghost use Rattle.deepsec_main.specs.declared.outcome.Outcome.{Outcome as AnOutcome};
+ghost use Rattle.dps_io.specs.Files.{FilesState};
 
-use crate::command::{Command, PlanRefusal};
 use crate::outcome::{Outcome, StopName};
 use crate::report::{MEMORY_TEXT, status, text};
-use crate::words::{plan, word_of};
 use dps_io::{Files, ReadRefusal, Sink, read_all, write_all};
 use dps_judge::laws::{
     no_text_has_theory_and_none, no_text_is_equivalent_and_attacked, no_text_is_refused_and_judged,
@@ -21,6 +21,7 @@ use dps_judge::{TheoryVerdict, Verdict, judge, judge_theory};
 use dps_lex::Place;
 use dps_meaning::laws::no_text_means_two_problems;
 use dps_process::CommModel;
+use dps_words::{Command, PlanRefusal, plan, word_of};
 use std::alloc::{AllocError, Global};
 
 /// The most bytes of a file.
@@ -110,6 +111,18 @@ fn theory<F: Files>(alloc: Global, words: &[String], file: u32, files: &mut F) -
     }
 }
 
+/// The file that is made from the number.
+fn generate(alloc: Global, words: &[String], number: u32) -> Outcome
+    requires { AsksToGenerate (texts words.now) number }
+    ensures { (files : FilesState) → IsCaused files files (texts words.now) result }
+{
+    let _named = words;
+    match dps_gen::text(alloc, number) {
+        Err(AllocError) => Outcome::NoMemory,
+        Ok(text) => Outcome::Generated { text },
+    }
+}
+
 /// What the words come to.
 fn outcome<F: Files>(alloc: Global, words: &[String], files: &mut F) -> Outcome
     ensures caused { IsCaused (F.state files.old) (F.state files.new) (texts words.now) result }
@@ -124,6 +137,7 @@ fn outcome<F: Files>(alloc: Global, words: &[String], files: &mut F) -> Outcome
         Ok(plan) => match plan.command {
             Command::Check => check(alloc, words, plan.words[0], files),
             Command::Theory => theory(alloc, words, plan.words[0], files),
+            Command::Gen => generate(alloc, words, plan.number),
         },
     }
 }
@@ -180,6 +194,10 @@ pub fn run_one<F: Files, W: Sink>(
         → (rules : ℕ) × HasReadText (F.state files.old) (F.state files.new) (texts words.now) Command.Theory file (λ bytes. MeansTheory bytes rules)
         × (W.written sink.new ≡ append_known (W.written sink.old) (theory_report rules)) }
 
+    // `gen` writes the file of the number.
+    ensures generated { Asks (texts words.now) Command.Gen → result.code ≡ 0
+        → (number : ℕ) × AsksToGenerate (texts words.now) number × (W.written sink.new ≡ append_known (W.written sink.old) (generated_text number)) }
+
     // Each other status comes only from its cause.
     ensures refused { result.code ≡ 3 → (file : ℕ) × IsRefusedText (F.state files.old) (F.state files.new) (texts words.now) file }
     ensures counts { FollowsCounts (F.state files.old) (F.state files.new) (W.faults sink.old) (W.faults sink.new) result.code }
@@ -190,7 +208,7 @@ pub fn run_one<F: Files, W: Sink>(
     ensures answer { (outcome : AnOutcome) × IsCaused (F.state files.old) (F.state files.new) (texts words.now) outcome
         × IsReported W.written W.faults sink.old sink.new outcome result.code }
 
-    // No file is touched where the words are refused, and none but the one that they name, which is opened once.
+    // No file is touched where the words name none, and none but the one that they name, which is opened once.
     ensures untouched { HasNoPlan (texts words.now) → F.state files.new ≡ F.state files.old }
     ensures used { IsUsed (F.state files.old) (F.state files.new) (texts words.now) }
     ensures kept { AreKept (F.state files.old) (F.state files.new) }

@@ -1,7 +1,5 @@
 //! Whole runs over files and sinks in memory.
-use crate::command::{Command, PlanRefusal};
 use crate::run::run_one;
-use crate::words::plan;
 use dps_io::{MemFiles, MemSink};
 use std::alloc::Global;
 use std::test::Fail;
@@ -9,35 +7,6 @@ use std::test::Fail;
 const EQUIVALENT: &str = "report 1\nresult: equivalent\n";
 
 const SMALLEST: &str = "query trace_equiv(0,0).\n";
-
-// What the words ask for. Each plan has the second word as its file.
-fn asked(alloc: Global, words: &[&str]) -> Result<Result<Command, PlanRefusal>, Fail> {
-    let mut given = Vec::new(alloc);
-    for word in words {
-        given.push(String::from_str(alloc, *word)?)?;
-    }
-    match plan(alloc, &given) {
-        Ok(plan) if plan.words.as_slice() == [2].as_slice() => Ok(Ok(plan.command)),
-        Ok(_) => Err(Fail::from("the plan names another word")),
-        Err(refusal) => Ok(Err(refusal)),
-    }
-}
-
-#[test]
-fn words_have_their_plans(rt: HostRuntime) -> Result<(), Fail> {
-    for (words, wanted) in [
-        (["check", "F"].as_slice(), Ok(Command::Check)),
-        (["theory", "--x"].as_slice(), Ok(Command::Theory)),
-        ([].as_slice(), Err(PlanRefusal::Wrong(1))),
-        (["gen", "3"].as_slice(), Err(PlanRefusal::Wrong(1))),
-        (["check"].as_slice(), Err(PlanRefusal::Wrong(2))),
-        (["check", "--x"].as_slice(), Err(PlanRefusal::Wrong(2))),
-        (["theory", "F", "G"].as_slice(), Err(PlanRefusal::Wrong(3))),
-    ] {
-        assert_eq!(rt; asked(rt.alloc(), words)?, wanted);
-    }
-    Ok(())
-}
 
 // Runs the words with a file F of this text, with these failing calls of the files and of the sink, which takes 4
 // bytes a call.
@@ -209,6 +178,13 @@ fn words_and_faults_have_their_reports(rt: HostRuntime) -> Result<(), Fail> {
             "report 1\nresult: words refused\nword: 3\n",
         ),
         (
+            ["gen", "88"].as_slice(),
+            [].as_slice(),
+            [].as_slice(),
+            7,
+            "report 1\nresult: words refused\nword: 2\n",
+        ),
+        (
             ["theory", "--steps"].as_slice(),
             [].as_slice(),
             [].as_slice(),
@@ -226,6 +202,14 @@ fn words_and_faults_have_their_reports(rt: HostRuntime) -> Result<(), Fail> {
         assert_eq!(rt; got, code, "for {report}");
         assert_eq!(rt; wrote.as_slice(), report.as_bytes());
     }
+    Ok(())
+}
+
+#[test]
+fn a_file_is_made(rt: HostRuntime) -> Result<(), Fail> {
+    let (code, wrote) = run(rt.alloc(), &["gen", "0"], &[], &[], &[])?;
+    assert_eq!(rt; code, 0);
+    assert_eq!(rt; wrote.as_slice(), dps_gen::text(rt.alloc(), 0)?.as_bytes());
     Ok(())
 }
 

@@ -1,7 +1,7 @@
 use Rattle.std.proofs.Common.{subst}
 use Rattle.dps_judge.specs.declared.verdict.Verdict.{Verdict}
 use Rattle.dps_judge.specs.Judgement.{IsJudged}
-use Rattle.deepsec_main.specs.Words.{texts, plan_model}
+use Rattle.dps_words.specs.Words.{texts, plan_model}
 use Rattle.deepsec_main.specs.Answers.{IsRead}
 use Rattle.deepsec_main.proofs.Reading.{check_refused}
 use Rattle.deepsec_main.proofs.run.check.Goals as goal

@@ -1,6 +1,6 @@
-use Rattle.deepsec_main.specs.Words.{texts, plan_model}
+use Rattle.dps_words.specs.Words.{texts, plan_model}
 use Rattle.deepsec_main.proofs.Completing.{complete, one_verdict}
-use Rattle.deepsec_main.proofs.Reporting.{caused_kept, own_status, equivalent_only, theory_only, attack_only, refused_only, words_only, long_only, follows, used_files, unused_files}
+use Rattle.deepsec_main.proofs.Reporting.{caused_kept, own_status, equivalent_only, theory_only, made_only, attack_only, refused_only, words_only, long_only, follows, used_files, unused_files}
 use Rattle.deepsec_main.proofs.run.run_one.Goals as goal
 
 pub returns : goal.returns
@@ -22,6 +22,7 @@ returns g c =
       equivalent = equivalent_only old new words written faults before after reached status caused sent;
       not_equivalent = attack_only old new words written faults before after reached status caused sent;
       theory_accepted = theory_only old new words written faults before after reached status caused sent;
+      generated = made_only old new words written faults before after reached status caused sent;
       refused = refused_only old new words written faults before after reached status caused sent;
       counts = follows old new words written faults before after reached status caused sent;
       words_refused = words_only old new words written faults before after reached status caused sent;

@@ -1,7 +1,7 @@
 use Rattle.std.proofs.Common.{subst}
 use Rattle.dps_judge.specs.declared.verdict.TheoryVerdict.{TheoryVerdict}
 use Rattle.dps_judge.specs.Judgement.{IsTheoryJudged}
-use Rattle.deepsec_main.specs.Words.{texts}
+use Rattle.dps_words.specs.Words.{texts}
 use Rattle.deepsec_main.specs.Answers.{IsRead}
 use Rattle.deepsec_main.proofs.Reading.{theory_refused}
 use Rattle.deepsec_main.proofs.run.theory.Goals as goal

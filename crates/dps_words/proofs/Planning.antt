@@ -1,17 +1,24 @@
 -- Which words have a plan, and which is the first wrong one.
 use Rattle.std.proofs.Common.{◌≡◌, ◌≢◌, ℕ, zero, suc, ◌-◌, ◌<◌, ◌≤◌, List, [], ◌∷◌, ◌++◌, Some, length, get_or, unwrap_or, slice_get, option_map, refl, ◌∙◌, ap, subst, arith, String, string_bytes}
 use Rattle.std.specs.Prelude.{codes}
+use Rattle.std.specs.Fmt.{decimal}
 use Rattle.std.proofs.lemmas.Option.{slice_get-map, slice_get_read, slice_get_past}
 use Rattle.std.specs.declared.alloc.Global.{Global}
-use Rattle.deepsec_main.specs.declared.command.Command.{Command}
-use Rattle.deepsec_main.specs.declared.command.Command.TheVariants.{Check, Theory}
-use Rattle.deepsec_main.specs.Words.{texts, word_at, IsOption, HasPlan, AsksOf, BeginsWith, CanGoOn, IsFirstWrong}
+use Rattle.dps_words.specs.declared.command.Command.{Command}
+use Rattle.dps_words.specs.declared.command.Command.TheVariants.{Check, Theory, Gen}
+use Rattle.dps_words.specs.Words.{texts, word_at, IsOption, AsksToGenerate, HasPlan, AsksOf, AsksFor, BeginsWith, CanGoOn, IsFirstWrong}
 
 some_file_is_none : ¬ IsOption (codes "F")
 some_file_is_none o = let e : ◌≡◌ {A = ℕ} 70 45 = (let f : codes "F" ≡ codes "--" ++ o.0 = o.1 in cc) in omega arith
 
 pub words_differ : codes "check" ≡ codes "theory" → ⊥
 words_differ e = let d : ◌≡◌ {A = ℕ} 99 116 = cc in omega arith
+
+pub check_or_gen : codes "check" ≡ codes "gen" → ⊥
+check_or_gen e = let d : ◌≡◌ {A = ℕ} 99 103 = cc in omega arith
+
+pub theory_or_gen : codes "theory" ≡ codes "gen" → ⊥
+theory_or_gen e = let d : ◌≡◌ {A = ℕ} 116 103 = cc in omega arith
 
 -- words that can go on
 go_on_from_none : CanGoOn []
@@ -49,6 +56,22 @@ go_on_from_theory w e = record {
 go_on_from_theory_file : (w f : List ℕ) → w ≡ codes "theory" → CanGoOn (w ∷ f ∷ [])
 go_on_from_theory_file w f e = record { more = []; command = Theory; numbers = 2 ∷ []; plan = (record { file = f; all = ap (λ x. x ∷ f ∷ []) e }, refl) }
 
+go_on_from_gen : (w : List ℕ) → w ≡ codes "gen" → CanGoOn (w ∷ [])
+go_on_from_gen w e = record {
+  more = decimal 0 ∷ [];
+  command = Gen;
+  numbers = 2 ∷ [];
+  plan = ((0, record { made = omega arith; all = ap (λ x. x ∷ decimal 0 ∷ []) e }), refl);
+}
+
+go_on_from_number : (w f : List ℕ) (number : ℕ) → w ≡ codes "gen" → number ≤ 87 → f ≡ decimal number → CanGoOn (w ∷ f ∷ [])
+go_on_from_number w f number e made i = record {
+  more = [];
+  command = Gen;
+  numbers = 2 ∷ [];
+  plan = ((number, record { made = made; all = cc }), refl);
+}
+
 -- what words with a plan are
 check_is : (w : List ℕ) (rest : List (List ℕ)) (numbers : List ℕ) → HasPlan (w ∷ rest) Check numbers → w ≡ codes "check"
 check_is w rest numbers p = let e = p.0.all in cc
@@ -56,17 +79,31 @@ check_is w rest numbers p = let e = p.0.all in cc
 theory_is : (w : List ℕ) (rest : List (List ℕ)) (numbers : List ℕ) → HasPlan (w ∷ rest) Theory numbers → w ≡ codes "theory"
 theory_is w rest numbers p = let e = p.0.all in cc
 
+gen_is : (w : List ℕ) (rest : List (List ℕ)) (numbers : List ℕ) → HasPlan (w ∷ rest) Gen numbers → w ≡ codes "gen"
+gen_is w rest numbers p = let e = p.0.1.all in cc
+
 one_file_is : (w : List ℕ) (rest : List (List ℕ)) (command : Command) (numbers : List ℕ) → HasPlan (w ∷ rest) command numbers → (f : List ℕ) × (rest ≡ f ∷ [])
 one_file_is w rest Check numbers p = let e = p.0.all in (p.0.file, (cc))
 one_file_is w rest Theory numbers p = let e = p.0.all in (p.0.file, (cc))
+one_file_is w rest Gen numbers p = let e = p.0.1.all in (decimal p.0.0, (cc))
 
 checked_file_is : (w : List ℕ) (rest : List (List ℕ)) (command : Command) (numbers : List ℕ) → w ≡ codes "check" → HasPlan (w ∷ rest) command numbers → (f : List ℕ) × (rest ≡ f ∷ []) × ¬ IsOption f
 checked_file_is w rest Check numbers e p = let d = p.0.all in (p.0.file, (cc), p.0.no_option)
 checked_file_is w rest Theory numbers e p = absurd (words_differ (let d : w ≡ codes "theory" = theory_is w rest numbers p in cc))
+checked_file_is w rest Gen numbers e p = absurd (check_or_gen (let d : w ≡ codes "gen" = gen_is w rest numbers p in cc))
+
+abbrev IsMade : List ℕ → ℕ → Type 0
+IsMade f number = (number ≤ 87) × (f ≡ decimal number)
+
+made_number_is : (w f : List ℕ) (rest : List (List ℕ)) (command : Command) (numbers : List ℕ) → w ≡ codes "gen" → HasPlan (w ∷ f ∷ rest) command numbers → (number : ℕ) × IsMade f number
+made_number_is w f rest Check numbers e p = absurd (check_or_gen (let d : w ≡ codes "check" = check_is w (f ∷ rest) numbers p in cc))
+made_number_is w f rest Theory numbers e p = absurd (theory_or_gen (let d : w ≡ codes "theory" = theory_is w (f ∷ rest) numbers p in cc))
+made_number_is w f rest Gen numbers e p = let d = p.0.1.all in (p.0.0, (p.0.1.made, (cc)))
 
 nothing_asks : (command : Command) (numbers : List ℕ) → ¬ HasPlan [] command numbers
 nothing_asks Check numbers p = let e = p.0.all in cc
 nothing_asks Theory numbers p = let e = p.0.all in cc
+nothing_asks Gen numbers p = let e = p.0.1.all in cc
 
 -- the first word
 
@@ -94,8 +131,8 @@ no_words [] l = record {
 }
 no_words (w ∷ ws) l = absurd (omega arith)
 
-wrong_first : (w : List ℕ) (rest : List (List ℕ)) → w ≢ codes "check" → w ≢ codes "theory" → IsFirstWrong (w ∷ rest) 1
-wrong_first w rest n m = record {
+wrong_first : (w : List ℕ) (rest : List (List ℕ)) → w ≢ codes "check" → w ≢ codes "theory" → w ≢ codes "gen" → IsFirstWrong (w ∷ rest) 1
+wrong_first w rest n m o = record {
   before = 0;
   is_next = omega arith;
   within = omega arith;
@@ -107,11 +144,14 @@ wrong_first w rest n m = record {
     never : (behind : List (List ℕ)) (command : Command) (numbers : List ℕ) → HasPlan (w ∷ behind) command numbers → ⊥
     never behind Check numbers p = n (check_is w behind numbers p)
     never behind Theory numbers p = m (theory_is w behind numbers p)
+    never behind Gen numbers p = o (gen_is w behind numbers p)
 
-pub wrong_command : (ws : List (String Global)) (w : String Global) → 1 ≤ length ws → w ≡ get_or ws 0 w → string_bytes w ≢ codes "check" → string_bytes w ≢ codes "theory" → IsFirstWrong (texts ws) 1
-wrong_command [] w l e n m = absurd (omega arith)
-wrong_command (v ∷ ws) w l e n m =
+pub wrong_command : (ws : List (String Global)) (w : String Global) → 1 ≤ length ws → w ≡ get_or ws 0 w → string_bytes w ≢ codes "check" → string_bytes w ≢ codes "theory" → string_bytes w ≢ codes "gen"
+    → IsFirstWrong (texts ws) 1
+wrong_command [] w l e n m o = absurd (omega arith)
+wrong_command (v ∷ ws) w l e n m o =
     wrong_first (string_bytes v) (texts ws) (subst (λ (x : String Global). string_bytes x ≢ codes "check") e n) (subst (λ (x : String Global). string_bytes x ≢ codes "theory") e m)
+    (subst (λ (x : String Global). string_bytes x ≢ codes "gen") e o)
 
 -- `check`
 
@@ -202,6 +242,56 @@ asks_for_theory (v ∷ []) l b = absurd (omega arith)
 asks_for_theory (v ∷ u ∷ []) l b =
     (record { file = string_bytes u; all = ap (λ x. x ∷ string_bytes u ∷ []) (first_is (codes "theory") (string_bytes v) (string_bytes u ∷ []) b) }, refl)
 asks_for_theory (v ∷ u ∷ t ∷ ws) l b = absurd (omega arith)
+
+-- `gen`
+
+pub no_number : (ws : List (String Global)) → length ws ≡ 1 → BeginsWith (codes "gen") (texts ws) → IsFirstWrong (texts ws) 2
+no_number [] l b = absurd (omega arith)
+no_number (v ∷ []) l b = alone_wrong (string_bytes v) (go_on_from_gen (string_bytes v) (first_is (codes "gen") (string_bytes v) [] b))
+no_number (v ∷ u ∷ ws) l b = absurd (omega arith)
+
+abbrev IsUnmade : List ℕ → Type 0
+IsUnmade f = (n : ℕ) → n ≤ 87 → f ≢ decimal n
+
+number_wrong : (w f : List ℕ) (rest : List (List ℕ)) → w ≡ codes "gen" → IsUnmade f → IsFirstWrong (w ∷ f ∷ rest) 2
+number_wrong w f rest e o = record {
+  before = 1;
+  is_next = omega arith;
+  within = omega arith;
+  right = go_on_from_gen w e;
+  wrong = λ h g. (let k = made_number_is w f g.more g.command g.numbers e g.plan in o k.0 k.1.0 k.1.1);
+  no_plan = λ command numbers p. (let k = made_number_is w f rest command numbers e p in o k.0 k.1.0 k.1.1);
+}
+
+pub unmade : (ws : List (String Global)) (f : String Global) → 2 ≤ length ws → BeginsWith (codes "gen") (texts ws) → f ≡ get_or ws 1 f → IsUnmade (string_bytes f) → IsFirstWrong (texts ws) 2
+unmade [] f l b i o = absurd (omega arith)
+unmade (v ∷ []) f l b i o = absurd (omega arith)
+unmade (v ∷ u ∷ ws) f l b i o =
+    number_wrong (string_bytes v) (string_bytes u) (texts ws) (first_is (codes "gen") (string_bytes v) (string_bytes u ∷ texts ws) b)
+    (subst (λ (x : String Global). IsUnmade (string_bytes x)) i o)
+
+pub number_surplus :
+    (ws : List (String Global)) (f : String Global) (number : ℕ) → 3 ≤ length ws → BeginsWith (codes "gen") (texts ws) → f ≡ get_or ws 1 f → IsMade (string_bytes f) number
+    → IsFirstWrong (texts ws) 3
+number_surplus [] f number l b i o = absurd (omega arith)
+number_surplus (v ∷ []) f number l b i o = absurd (omega arith)
+number_surplus (v ∷ u ∷ []) f number l b i o = absurd (omega arith)
+number_surplus (v ∷ u ∷ t ∷ ws) f number l b i o =
+    let made = subst (λ (x : String Global). IsMade (string_bytes x) number) i o in
+    surplus_wrong (string_bytes v) (string_bytes u) (string_bytes t) (texts ws)
+    (go_on_from_number (string_bytes v) (string_bytes u) number (first_is (codes "gen") (string_bytes v) (string_bytes u ∷ string_bytes t ∷ texts ws) b) made.0 made.1)
+
+pub asks_for_number :
+    (ws : List (String Global)) (f : String Global) (number : ℕ) → length ws ≡ 2 → BeginsWith (codes "gen") (texts ws) → f ≡ get_or ws 1 f → IsMade (string_bytes f) number
+    → AsksFor (texts ws) (record { command = Gen; number = number })
+asks_for_number [] f number l b i o = absurd (omega arith)
+asks_for_number (v ∷ []) f number l b i o = absurd (omega arith)
+asks_for_number (v ∷ u ∷ []) f number l b i o =
+    let made = subst (λ (x : String Global). IsMade (string_bytes x) number) i o in
+    let first = first_is (codes "gen") (string_bytes v) (string_bytes u ∷ []) b in
+    let asks : AsksToGenerate (string_bytes v ∷ string_bytes u ∷ []) number = record { made = made.0; all = (let k = made.1 in cc) } in
+    (((number, asks), refl), asks)
+asks_for_number (v ∷ u ∷ t ∷ ws) f number l b i o = absurd (omega arith)
 
 word_there : (words : List (String Global)) (n : ℕ) (word : String Global) → slice_get words n ≡ Some word → word_at (texts words) (suc n) ≡ string_bytes word
 word_there words n word e = ap (λ x. unwrap_or x []) (slice_get-map (λ w. string_bytes w) words n ∙ ap (λ x. option_map (λ w. string_bytes w) x) e)

@@ -1,11 +1,13 @@
 -- What the words of the command line ask for.
 use Rattle.std.specs.Prelude.{◌≡◌, ℕ, zero, suc, ◌+◌, ◌<◌, ◌≤◌, List, [], ◌∷◌, ◌++◌, codes, take, length, String, string_bytes, map, unwrap_or, slice_get}
+use Rattle.std.specs.Fmt.{decimal}
 use Rattle.std.specs.declared.alloc.Global.{Global}
 use Rattle.dps_process.specs.Models.{Model, Private}
-use Rattle.deepsec_main.specs.declared.command.Command.{Command}
-use Rattle.deepsec_main.specs.declared.command.Command.TheVariants.{Check, Theory}
-use Rattle.deepsec_main.specs.declared.command.PlanRefusal.{PlanRefusal}
-use Rattle.deepsec_main.specs.declared.command.PlanRefusal.TheVariants.{Wrong, Memory}
+use Rattle.dps_words.specs.declared.command.Command.{Command}
+use Rattle.dps_words.specs.declared.command.Command.TheVariants.{Check, Theory, Gen}
+use Rattle.dps_words.specs.declared.command.PlanRefusal.{PlanRefusal}
+use Rattle.dps_words.specs.declared.words.Asked.{Asked}
+use Rattle.dps_words.specs.declared.command.PlanRefusal.TheVariants.{Wrong, Memory}
 
 abbrev pub texts : List (String Global) → List (List ℕ)
 texts words = map (λ word. string_bytes word) words
@@ -30,15 +32,27 @@ pub record AsksForTheory (words : List (List ℕ)) : Type 0 where
   pub file : List ℕ
   pub all : words ≡ codes "theory" ∷ file ∷ []
 
+-- `gen N`, with a number of a file that can be made, as it is printed
+pub record AsksToGenerate (words : List (List ℕ)) (number : ℕ) : Type 0 where
+  pub made : number ≤ 87
+  pub all : words ≡ codes "gen" ∷ decimal number ∷ []
+
 abbrev pub Asks : List (List ℕ) → Command → Type 0
 Asks words Check = AsksToCheck words
 Asks words Theory = AsksForTheory words
+Asks words Gen = (number : ℕ) × AsksToGenerate words number
 
--- the words ask for the command; the numbers, from 1, are those of the words that name files
+-- the number of `gen` that the words give, and 0 for the other commands
+abbrev pub IsNumberOf : List (List ℕ) → Command → ℕ → Type 0
+IsNumberOf words Check number = number ≡ 0
+IsNumberOf words Theory number = number ≡ 0
+IsNumberOf words Gen number = AsksToGenerate words number
+
+-- the words ask for the command; the numbers, from 1, are those of the words behind it that belong to no option
 abbrev pub HasPlan : List (List ℕ) → Command → List ℕ → Type 0
 HasPlan words command numbers = Asks words command × (numbers ≡ 2 ∷ [])
 
--- with the second word as the file
+-- with the second word
 abbrev pub AsksOf : List (List ℕ) → Command → Type 0
 AsksOf words command = HasPlan words command (2 ∷ [])
 
@@ -67,6 +81,10 @@ pub record IsFirstWrong (words : List (List ℕ)) (number : ℕ) : Type 0 where
   pub right : CanGoOn (take before words)
   pub wrong : before < length words → ¬ CanGoOn (take (before + 1) words)
   pub no_plan : HasNoPlan words
+
+-- the command and the number that the words ask for
+abbrev pub AsksFor : List (List ℕ) → Asked → Type 0
+AsksFor words asked = AsksOf words asked.command × IsNumberOf words asked.command asked.number
 
 -- why no plan is answered: the words have none; or they have one, and there was no memory for it
 abbrev pub RefusesWords : List (List ℕ) → PlanRefusal → Type 0

@@ -8,13 +8,17 @@ pub enum Command {
     Check,
     /// `theory FILE`: whether the rules of a file are accepted.
     Theory,
+    /// `gen N`: the file that is made from a number.
+    Gen,
 }
 
-/// A command, and the numbers, from 1, of the words that name its files.
+/// A command, the numbers, from 1, of the words behind it that belong to no option, and the number of `gen`, which is 0 for
+/// the other commands.
 #[derive(Drop, Debug)]
 pub struct Plan {
     pub command: Command,
     pub words: Vec<u32>,
+    pub number: u32,
 }
 
 /// Why words have no plan.

@@ -1,0 +1,12 @@
+//! What answers decide. Each function does nothing: its contract is the law.
+ghost use Rattle.dps_replay.specs.Laws.{AttacksAreAnswered, MissingRunsAreAnswered};
+
+/// An answer is an attack exactly where the labels are one.
+pub fn attacks_are_answered()
+    ensures { AttacksAreAnswered }
+{}
+
+/// An answer is that there is no run exactly where the side has no trace with the labels.
+pub fn missing_runs_are_answered()
+    ensures { MissingRunsAreAnswered }
+{}

@@ -1,0 +1,86 @@
+//! Ends beside their partners.
+ghost use Rattle.std.specs.Prelude.{◌≡◌, length, IfOk};
+ghost use Rattle.dps_replay.specs.Matching.{AreLevel, HavePartners, ArePairs, IsVerdict};
+
+use crate::Replay;
+use crate::matching::{Matching, match_ends};
+use dps_process::Process;
+use dps_recipes::Frame;
+use dps_semantics::Config;
+use dps_terms::{NoMemory, Term};
+use dps_theory::Theory;
+use std::alloc::{AllocError, Global};
+
+/// An end that none of the others looks like, or a pair for each end.
+pub(crate) fn verdict(
+    alloc: Global,
+    theory: &Theory,
+    mut ends: Vec<Config>,
+    others: &[Config],
+) -> Result<Replay, NoMemory>
+    requires { AreLevel ends.items others.now }
+    ensures { IfOk result (IsVerdict theory.now ends.items others.now) }
+{
+    match match_ends(alloc, theory, &ends, others)? {
+        Matching::Lone(place, tests) => Ok(Replay::Attack {
+            end: ends.swap_remove(place),
+            tests,
+        }),
+        Matching::All(partners) => Ok(Replay::Matched {
+            pairs: pairs(alloc, ends, others, &partners)?,
+        }),
+    }
+}
+
+/// Each end beside its partner.
+fn pairs(
+    alloc: Global,
+    ends: Vec<Config>,
+    others: &[Config],
+    partners: &[usize],
+) -> Result<Vec<(Config, Config)>, NoMemory>
+    ghost theory: { Theory }
+    requires { HavePartners theory ends.items others.now (length ends.items) partners.now }
+    ensures { IfOk result (λ pairs. ArePairs theory ends.items others.now 0 pairs.items) }
+{
+    let mut left = ends;
+    let mut pairs = Vec::with_capacity(alloc, left.len())?;
+    while let Some(end) = left.pop() {
+        let other = copy(alloc, &others[partners[left.len()]])?;
+        pairs.push((end, other))?;
+    }
+    Ok(pairs)
+}
+
+/// The same configuration, in memory of its own.
+fn copy(alloc: Global, config: &Config) -> Result<Config, NoMemory>
+    ensures { IfOk result (λ copy. copy ≡ config.now) }
+{
+    let parts = processes(alloc, &config.parts)?;
+    let frame = Frame {
+        messages: terms(alloc, &config.frame.messages)?,
+    };
+    Ok(Config { parts, frame })
+}
+
+/// The same processes.
+fn processes(alloc: Global, given: &[Process]) -> Result<Vec<Process>, NoMemory>
+    ensures { IfOk result (λ copies. copies.items ≡ given.now) }
+{
+    let mut copies = Vec::with_capacity(alloc, given.len())?;
+    for index in 0..given.len() {
+        copies.push(given[index].copy(alloc)?)?;
+    }
+    Ok(copies)
+}
+
+/// The same terms.
+fn terms(alloc: Global, given: &[Term]) -> Result<Vec<Term>, NoMemory>
+    ensures { IfOk result (λ copies. copies.items ≡ given.now) }
+{
+    let mut copies = Vec::with_capacity(alloc, given.len())?;
+    for index in 0..given.len() {
+        copies.push(given[index].copy(alloc)?)?;
+    }
+    Ok(copies)
+}
