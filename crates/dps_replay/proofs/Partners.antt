@@ -1,41 +1,63 @@
 -- Pairs of ends and their partners.
-use Rattle.std.proofs.Common.{◌≡◌, ℕ, zero, suc, ◌+◌, ◌<◌, ◌≤◌, List, [], ◌∷◌, ◌++◌, length, get_or, refl, sym, ◌∙◌, ap, subst, inl, inr, arith}
+use Rattle.std.proofs.Common.{◌≡◌, ℕ, zero, suc, ◌+◌, ◌<◌, ◌≤◌, List, [], ◌∷◌, ◌++◌, length, get_or, take, refl, sym, ◌∙◌, ap, subst, inl, inr, arith, length-take}
 use Rattle.std.specs.Prelude.{◌⊎◌, Contains}
+use Rattle.std.proofs.lemmas.List.{get_or-take, get_or_default}
 use Rattle.std.proofs.lemmas.List.Elements.{Contains-append_left, Contains-push, Contains-push_cases, Contains-get_or}
 use Rattle.dps_terms.specs.Tree.{Tree}
 use Rattle.dps_theory.specs.Theory.{Theory}
 use Rattle.dps_process.specs.Steps.{Config}
 use Rattle.dps_semantics.specs.Once.{config_at}
-use Rattle.dps_replay.specs.Matching.{frame_at, AreAlike, IsPartnerAt, HavePartners, ArePairs}
+use Rattle.dps_replay.specs.Matching.{frame_at, AreAlike, IsPartnerAt, HavePartners, AreWithin, pair_at, ArePaired, ArePairs}
 
-module _ (theory : Theory) (ends others : List Config) where
-  pub no_pairs : (from : ℕ) → length ends ≤ from → ArePairs theory ends others from []
-  no_pairs from h = record {
-    alike = λ c d k. absurd (omega (arith, k.1));
-    complete = λ i l b. absurd (omega (arith, h, l, b));
+same_or_later : (from i : ℕ) → from ≤ i → (from ≡ i) ⊎ (from + 1 ≤ i)
+same_or_later zero zero h = inl refl
+same_or_later zero (suc i) h = inr (omega arith)
+same_or_later (suc from) zero h = absurd (omega (arith, h))
+same_or_later (suc from) (suc i) h = elim (same_or_later from i (omega (arith, h))) [ inl e ↦ inl (ap (λ (n : ℕ). suc n) e) | inr k ↦ inr (omega (arith, k)) ]
+
+module _ (ends others : List Config) (partners : List ℕ) where
+  pub no_pairs : ArePaired ends others partners (length ends) []
+  no_pairs = record {
+    sound = λ pair k. absurd (omega (arith, k.1));
+    complete = λ i l b. absurd (omega (arith, l, b));
   }
 
-  abbrev IsPairOf : Config → Config → Type 0
-  IsPairOf c d = Contains ends c × Contains others d × AreAlike theory c.frame d.frame
+  pub more_pairs : (from : ℕ) (pairs : List (Config × Config)) → ArePaired ends others partners (from + 1) pairs → from < length ends
+      → ArePaired ends others partners from (pairs ++ pair_at ends others partners from ∷ [])
+  more_pairs from pairs h l = record {
+    sound = λ pair k. elim (Contains-push_cases pairs (pair_at ends others partners from) pair k) [ inl b ↦ h.sound pair b | inr e ↦ (from, l, e) ];
+    complete = λ i m b. elim (same_or_later from i m) [
+      | inl e ↦ subst (λ (n : ℕ). Contains (pairs ++ pair_at ends others partners from ∷ []) (pair_at ends others partners n)) e (Contains-push pairs (pair_at ends others partners from))
+      | inr k ↦ Contains-append_left pairs (pair_at ends others partners from ∷ []) (pair_at ends others partners i) (h.complete i k b)
+    ];
+  }
 
-  pub more_pairs : (from place : ℕ) (pairs : List (Config × Config)) → ArePairs theory ends others (from + 1) pairs → from < length ends
-      → IsPartnerAt theory (frame_at ends from) others place
-      → ArePairs theory ends others from (pairs ++ (config_at ends from, config_at others place) ∷ [])
-  more_pairs from place pairs h l p =
-      let new : Config × Config = (config_at ends from, config_at others place) in
-      let here : IsPairOf (config_at ends from) (config_at others place) = (Contains-get_or ends from _ l, Contains-get_or others place _ p.within, p.alike) in record {
-        alike = λ c d k. elim (Contains-push_cases pairs new (c, d) k) [
-          | inl b ↦ h.alike c d b
-          | inr e ↦ subst (λ (pair : Config × Config). IsPairOf pair.0 pair.1) e here
-        ];
-        complete = λ i m b. elim (same_or_later from i m) [
-          | inl e ↦ subst (λ (n : ℕ). (d : Config) × Contains (pairs ++ new ∷ []) (config_at ends n, d)) e (config_at others place, Contains-push pairs new)
-          | inr k ↦ let c = h.complete i k b in (c.0, Contains-append_left pairs (new ∷ []) (config_at ends i, c.0) c.1)
-        ];
-      }
+  -- the first so many ends are left, and the others stand in pairs
+  pub record IsLeftPaired (left : List Config) (pairs : List (Config × Config)) : Type 0 where
+    pub front : left ≡ take (length left) ends
+    pub paired : ArePaired ends others partners (length left) pairs
 
-  same_or_later : (from i : ℕ) → from ≤ i → (from ≡ i) ⊎ (from + 1 ≤ i)
-  same_or_later zero zero h = inl refl
-  same_or_later zero (suc i) h = inr (omega arith)
-  same_or_later (suc from) zero h = absurd (omega (arith, h))
-  same_or_later (suc from) (suc i) h = elim (same_or_later from i (omega (arith, h))) [ inl e ↦ inl (ap (λ (n : ℕ). suc n) e) | inr k ↦ inr (omega (arith, k)) ]
+  -- the last of the first so many ends
+  pub last_end : (count : ℕ) (left : List Config) (end : Config) → left ≡ take (length left) ends → count + 1 ≡ length left → end ≡ get_or left count end → end ≡ config_at ends count
+  last_end count left end t k e =
+      let below : count < length left = omega (arith, k) in
+      e ∙ (ap (λ (cs : List Config). get_or cs count end) t ∙ (get_or-take (length left) ends count end below ∙ get_or_default ends count end _ (omega (arith, below, length-take (length left) ends, ap (λ (cs : List Config). length cs) t))))
+
+-- partners look alike
+pub paired_alike : (theory : Theory) (ends others : List Config) (partners : List ℕ) (pairs : List (Config × Config)) → HavePartners theory ends others (length ends) partners
+    → ArePaired ends others partners 0 pairs → ArePairs theory ends others pairs
+paired_alike theory ends others partners pairs h p = record {
+  alike = λ c d k.
+    (let at = p.sound (c, d) k in
+    let one = h.partner at.0 at.1 in
+    let here : IsPairOf (config_at ends at.0) (config_at others (get_or partners at.0 0)) =
+      (Contains-get_or ends at.0 _ at.1, Contains-get_or others (get_or partners at.0 0) _ one.within, one.alike) in
+    subst (λ (pair : Config × Config). IsPairOf pair.0 pair.1) at.2 here);
+  complete = λ i b. (config_at others (get_or partners i 0), p.complete i (omega arith) b);
+}
+  where
+    abbrev IsPairOf : Config → Config → Type 0
+    IsPairOf c d = Contains ends c × Contains others d × AreAlike theory c.frame d.frame
+
+pub partners_within : (theory : Theory) (ends others : List Config) (partners : List ℕ) → HavePartners theory ends others (length ends) partners → AreWithin ends others partners
+partners_within theory ends others partners h = record { counted = h.counted; within = λ i l. (h.partner i l).within }

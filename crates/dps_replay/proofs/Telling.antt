@@ -4,7 +4,6 @@ use Rattle.std.specs.Prelude.{◌⊎◌, Contains, slice_get}
 use Rattle.std.proofs.lemmas.List.Elements.{Contains-append_left, Contains-push, Contains-push_cases}
 use Rattle.std.proofs.Math.ListN.{get_or-append}
 use Rattle.std.proofs.Math.Seq.{get_or-append_seam}
-use Rattle.std.proofs.lemmas.Option.{slice_get_read}
 use Rattle.dps_terms.specs.Tree.{Tree}
 use Rattle.dps_theory.specs.Theory.{Theory}
 use Rattle.dps_theory.specs.Frames.{AreStaticallyEquivalent}
@@ -29,23 +28,19 @@ same_partner theory frame others limit place h = record {
   alike = subst (λ (f : List Tree). AreAlike theory frame f) (sym h.same) (alike_itself theory frame);
 }
 
--- what stands in a list stands at a place that is read
-read_place : {A : Type 0} (xs : List A) (x : A) → Contains xs x → (i : ℕ) × (slice_get xs i ≡ Some x)
-read_place xs x h = (h.0, slice_get_read xs (length xs) h.0 x refl h.1 (sym h.2))
-
 pub distinct_none : {A : Type 0} → AreDistinct {A} []
-distinct_none {A} i j x h k = cc
+distinct_none {A} i j x h k = absurd (cc)
 
 -- what is read of a list with one more item
 read_pushed : {A : Type 0} (xs : List A) (y : A) (i : ℕ) (x : A) → slice_get (xs ++ y ∷ []) i ≡ Some x → (slice_get xs i ≡ Some x) ⊎ ((i ≡ length xs) × (x ≡ y))
-read_pushed [] y zero x h = inr (refl, cc)
-read_pushed [] y (suc i) x h = cc
+read_pushed [] y zero x h = inr (refl, (cc))
+read_pushed [] y (suc i) x h = absurd (cc)
 read_pushed (z ∷ xs) y zero x h = inl h
 read_pushed (z ∷ xs) y (suc i) x h = elim (read_pushed xs y i x h) [ inl k ↦ inl k | inr k ↦ inr (ap (λ (n : ℕ). suc n) k.0, k.1) ]
 
 read_contains : {A : Type 0} (xs : List A) (i : ℕ) (x : A) → slice_get xs i ≡ Some x → Contains xs x
-read_contains [] i x h = cc
-read_contains (z ∷ xs) zero x h = (0, omega arith, cc)
+read_contains [] i x h = absurd (cc)
+read_contains (z ∷ xs) zero x h = (0, omega arith, (cc))
 read_contains (z ∷ xs) (suc i) x h = let k = read_contains xs i x h in (suc k.0, omega (arith, k.1), k.2)
 
 pub distinct_more : {A : Type 0} (xs : List A) (y : A) → AreDistinct xs → ¬ Contains xs y → AreDistinct (xs ++ y ∷ [])
@@ -133,7 +128,7 @@ module _ (theory : Theory) (ends others : List Config) where
   more_partners count partners place h k = record {
     counted = simp length-append (omega (arith, h.counted));
     partner = λ i l. elim (below_next i count l) [
-      | inl b ↦ subst (λ (p : ℕ). IsPartnerAt theory (frame_at ends i) others p) (sym (get_or-append partners (place ∷ []) 0 (omega (arith, b, h.counted)))) (h.partner i b)
+      | inl b ↦ subst (λ (p : ℕ). IsPartnerAt theory (frame_at ends i) others p) (sym (get_or-append partners (place ∷ []) 0 i (omega (arith, b, h.counted)))) (h.partner i b)
       | inr e ↦
           subst (λ (n : ℕ). IsPartnerAt theory (frame_at ends n) others (get_or (partners ++ place ∷ []) n 0)) (h.counted ∙ sym e)
           (subst (λ (p : ℕ). IsPartnerAt theory (frame_at ends (length partners)) others p) (sym (get_or-append_seam partners place [] 0))
@@ -156,7 +151,7 @@ module _ (configs : List Config) where
 
   reads_first : (count : ℕ) (firsts : List ℕ) (first : ℕ) → AreFirsts configs count firsts → IsFirst count first → (i : ℕ) → i < count + 1 → IsFirst i (get_or (firsts ++ first ∷ []) i 0)
   reads_first count firsts first h k i l = elim (below_next i count l) [
-    | inl b ↦ subst (IsFirst i) (sym (get_or-append firsts (first ∷ []) 0 (omega (arith, b, h.counted)))) (h.before i b, h.same i b)
+    | inl b ↦ subst (IsFirst i) (sym (get_or-append firsts (first ∷ []) 0 i (omega (arith, b, h.counted)))) (h.before i b, h.same i b)
     | inr e ↦
         subst (λ (n : ℕ). IsFirst n (get_or (firsts ++ first ∷ []) n 0)) (h.counted ∙ sym e)
         (subst (IsFirst (length firsts)) (sym (get_or-append_seam firsts first [] 0)) (subst (λ (n : ℕ). IsFirst n first) (sym h.counted) k))

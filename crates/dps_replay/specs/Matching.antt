@@ -77,13 +77,27 @@ abbrev pub IsMatching : Theory → List Config → List Config → Matching → 
 IsMatching theory ends others (All partners) = HavePartners theory ends others (length ends) partners.items
 IsMatching theory ends others (Lone place tests) = (place < length ends) × TellApart theory (frame_at ends place) others (length others) tests.items
 
--- each pair is an end and one of the others that look alike, and each end from the place on stands first in a pair
-pub record ArePairs (theory : Theory) (ends others : List Config) (from : ℕ) (pairs : List (Config × Config)) : Type 0 where
+-- a partner's place for each end
+pub record AreWithin (ends others : List Config) (partners : List ℕ) : Type 0 where
+  pub counted : length partners ≡ length ends
+  pub within : (i : ℕ) → i < length ends → get_or partners i 0 < length others
+
+-- the end at the place, and the other at its partner's place
+abbrev pub pair_at : List Config → List Config → List ℕ → ℕ → Config × Config
+pair_at ends others partners i = (config_at ends i, config_at others (get_or partners i 0))
+
+-- the list has such a pair for each end from this place on, and no other pair
+pub record ArePaired (ends others : List Config) (partners : List ℕ) (from : ℕ) (pairs : List (Config × Config)) : Type 0 where
+  pub sound : (pair : Config × Config) → Contains pairs pair → (i : ℕ) × (i < length ends) × (pair_at ends others partners i ≡ pair)
+  pub complete : (i : ℕ) → from ≤ i → i < length ends → Contains pairs (pair_at ends others partners i)
+
+-- each pair is an end and one of the others that look alike, and each end stands first in a pair
+pub record ArePairs (theory : Theory) (ends others : List Config) (pairs : List (Config × Config)) : Type 0 where
   pub alike : (c d : Config) → Contains pairs (c, d) → Contains ends c × Contains others d × AreAlike theory c.frame d.frame
-  pub complete : (i : ℕ) → from ≤ i → i < length ends → (d : Config) × Contains pairs (config_at ends i, d)
+  pub complete : (i : ℕ) → i < length ends → (d : Config) × Contains pairs (config_at ends i, d)
 
 -- an end without a partner, or all pairs
 abbrev pub IsVerdict : Theory → List Config → List Config → Replay → Type 0
 IsVerdict theory ends others (NoRun n) = ⊥
 IsVerdict theory ends others (Attack end tests) = Contains ends end × TellApart theory end.frame others (length others) tests.items
-IsVerdict theory ends others (Matched pairs) = ArePairs theory ends others 0 pairs.items
+IsVerdict theory ends others (Matched pairs) = ArePairs theory ends others pairs.items

@@ -1,6 +1,6 @@
 //! Ends beside their partners.
-ghost use Rattle.std.specs.Prelude.{◌≡◌, length, IfOk};
-ghost use Rattle.dps_replay.specs.Matching.{AreLevel, HavePartners, ArePairs, IsVerdict};
+ghost use Rattle.std.specs.Prelude.{◌≡◌, IfOk};
+ghost use Rattle.dps_replay.specs.Matching.{AreLevel, AreWithin, ArePaired, IsVerdict};
 
 use crate::Replay;
 use crate::matching::{Matching, match_ends};
@@ -39,9 +39,8 @@ fn pairs(
     others: &[Config],
     partners: &[usize],
 ) -> Result<Vec<(Config, Config)>, NoMemory>
-    ghost theory: { Theory }
-    requires { HavePartners theory ends.items others.now (length ends.items) partners.now }
-    ensures { IfOk result (λ pairs. ArePairs theory ends.items others.now 0 pairs.items) }
+    requires { AreWithin ends.items others.now partners.now }
+    ensures { IfOk result (λ pairs. ArePaired ends.items others.now partners.now 0 pairs.items) }
 {
     let mut left = ends;
     let mut pairs = Vec::with_capacity(alloc, left.len())?;

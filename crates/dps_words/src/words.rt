@@ -48,13 +48,20 @@ fn is_gen(word: &String) -> bool
     word.as_str() == "gen"
 }
 
+// Whether the word is the number, as it is printed.
+fn is_number(word: &String, number: u32) -> bool
+    ensures { MatchBool result (string_bytes word.now ≡ decimal number) (string_bytes word.now ≢ decimal number) }
+{
+    let mut digits = Buffer::new();
+    word.as_str() == digits.format(number)
+}
+
 // The number of a file that can be made, where the word is one.
 fn made_number(word: &String) -> Option<u32>
     ensures { MatchOption result ((n : ℕ) → n ≤ 87 → string_bytes word.now ≢ decimal n) (λ n. (n ≤ 87) × (string_bytes word.now ≡ decimal n)) }
 {
-    let mut digits = Buffer::new();
     for number in 0..MADE_FILES {
-        if word.as_str() == digits.format(number) {
+        if is_number(word, number) {
             return Some(number);
         }
     }
