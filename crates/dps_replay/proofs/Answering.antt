@@ -51,7 +51,7 @@ ends_have : TracesHaveLawfulLabels → (problem : Problem) (side : Side) (word :
 ends_have labels problem side word configs h i l =
     let frame = frame_at configs i in
     let trace = (h.frames frame).0 (config_at configs i, Contains-get_or configs i _ l, refl) in
-    lawful_size problem.signature 0 (length frame) word (labels problem.model problem.signature problem.theory (side_of problem side) word frame trace)
+    omega (arith, lawful_size problem.signature 0 (length frame) word (labels problem.model problem.signature problem.theory (side_of problem side) word frame trace))
 
 pub are_level : TracesHaveLawfulLabels → (problem : Problem) (side other : Side) (word : List Label) (ends others : List Config) → HasAllEnds problem side word ends
     → HasAllEnds problem other word others → length word < 2 ^ 31 → AreLevel ends others
@@ -117,10 +117,10 @@ module _ (problem : Problem) (side : Side) (word : List Label) (ends others : Li
       → (d : Config) → IsEnd problem (opposite side) word d → (test : Test) × Contains tests test × IsToldBy problem end d test
   told end tests h t d e =
       let one = (has_others.just d).1 e in
-      let at = place_of others one.0 one.1 in
-      let test = t.told at.0 at.1 in
-      let here = told_by end (config_at others at.0) test.0 h (Contains-get_or others at.0 _ at.1) test.2 in
-      let same : frame_at others at.0 ≡ d.frame = ap (λ (c : Config). c.frame) at.2 ∙ one.2.frame in
+      let spot = place_of others one.0 one.1 in
+      let test = t.told spot.0 spot.1 in
+      let here = told_by end (config_at others spot.0) test.0 h (Contains-get_or others spot.0 _ spot.1) test.2 in
+      let same : frame_at others spot.0 ≡ d.frame = ap (λ (c : Config). c.frame) spot.2 ∙ one.2.frame in
       (test.0, test.1, subst (λ (f : List Tree). TellsApart problem.signature problem.theory end.frame f (test_of test.0)) same here)
 
   unmatched : AnswersDecide → (end : Config) (tests : List Test) → Contains ends end → TellApart problem.theory end.frame others (length others) tests → IsUnmatched problem side word end tests
@@ -153,11 +153,11 @@ module _ (problem : Problem) (side : Side) (word : List Label) (ends others : Li
     run = (config_at ends 0, end_is (config_at ends 0) (Contains-get_or ends 0 _ some));
     no_attack = λ a.
       (let one = (has.frames a.frame).1 a.trace in
-      let at = place_of ends one.0 one.1 in
-      let pair = h.complete at.0 at.1 in
-      let is = h.alike (config_at ends at.0) pair.0 pair.1 in
-      let alike = look_alike (config_at ends at.0) pair.0 is.0 is.1 is.2 in
-      let same : frame_at ends at.0 ≡ a.frame = ap (λ (c : Config). c.frame) at.2 ∙ one.2 in
+      let spot = place_of ends one.0 one.1 in
+      let pair = h.complete spot.0 spot.1 in
+      let is = h.alike (config_at ends spot.0) pair.0 pair.1 in
+      let alike = look_alike (config_at ends spot.0) pair.0 is.0 is.1 is.2 in
+      let same : frame_at ends spot.0 ≡ a.frame = ap (λ (c : Config). c.frame) spot.2 ∙ one.2 in
       a.unmatched (record {
         other = pair.0.frame;
         trace = other_trace pair.0 is.1;
@@ -166,9 +166,9 @@ module _ (problem : Problem) (side : Side) (word : List Label) (ends others : Li
     alike = λ c d k. (let is = h.alike c d k in (end_is c is.0, other_is d is.1, look_alike c d is.0 is.1 is.2));
     complete = λ c e.
       (let one = (has.just c).1 e in
-      let at = place_of ends one.0 one.1 in
-      let pair = h.complete at.0 at.1 in
-      (config_at ends at.0, pair.0, pair.1, subst (λ (k : Config). AreOneBag k c) (sym at.2) one.2));
+      let spot = place_of ends one.0 one.1 in
+      let pair = h.complete spot.0 spot.1 in
+      (config_at ends spot.0, pair.0, pair.1, subst (λ (k : Config). AreOneBag k c) (sym spot.2) one.2));
   }
 
   pub answered : AnswersDecide → 0 < length ends → (answer : Replay) → IsVerdict problem.theory ends others answer → IsReplay problem side word answer

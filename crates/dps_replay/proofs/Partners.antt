@@ -43,21 +43,22 @@ module _ (ends others : List Config) (partners : List ℕ) where
       let below : count < length left = omega (arith, k) in
       e ∙ (ap (λ (cs : List Config). get_or cs count end) t ∙ (get_or-take (length left) ends count end below ∙ get_or_default ends count end _ (omega (arith, below, length-take (length left) ends, ap (λ (cs : List Config). length cs) t))))
 
+-- an end and one of the others that look alike
+abbrev IsPairOf : Theory → List Config → List Config → Config → Config → Type 0
+IsPairOf theory ends others c d = Contains ends c × Contains others d × AreAlike theory c.frame d.frame
+
 -- partners look alike
 pub paired_alike : (theory : Theory) (ends others : List Config) (partners : List ℕ) (pairs : List (Config × Config)) → HavePartners theory ends others (length ends) partners
     → ArePaired ends others partners 0 pairs → ArePairs theory ends others pairs
 paired_alike theory ends others partners pairs h p = record {
   alike = λ c d k.
-    (let at = p.sound (c, d) k in
-    let one = h.partner at.0 at.1 in
-    let here : IsPairOf (config_at ends at.0) (config_at others (get_or partners at.0 0)) =
-      (Contains-get_or ends at.0 _ at.1, Contains-get_or others (get_or partners at.0 0) _ one.within, one.alike) in
-    subst (λ (pair : Config × Config). IsPairOf pair.0 pair.1) at.2 here);
+    (let spot = p.sound (c, d) k in
+    let one = h.partner spot.0 spot.1 in
+    let here : IsPairOf theory ends others (config_at ends spot.0) (config_at others (get_or partners spot.0 0)) =
+      (Contains-get_or ends spot.0 _ spot.1, Contains-get_or others (get_or partners spot.0 0) _ one.within, one.alike) in
+    subst (λ (pair : Config × Config). IsPairOf theory ends others pair.0 pair.1) spot.2 here);
   complete = λ i b. (config_at others (get_or partners i 0), p.complete i (omega arith) b);
 }
-  where
-    abbrev IsPairOf : Config → Config → Type 0
-    IsPairOf c d = Contains ends c × Contains others d × AreAlike theory c.frame d.frame
 
 pub partners_within : (theory : Theory) (ends others : List Config) (partners : List ℕ) → HavePartners theory ends others (length ends) partners → AreWithin ends others partners
 partners_within theory ends others partners h = record { counted = h.counted; within = λ i l. (h.partner i l).within }

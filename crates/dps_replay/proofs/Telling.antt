@@ -3,15 +3,20 @@ use Rattle.std.proofs.Common.{◌≡◌, ℕ, zero, suc, ◌+◌, ◌<◌, ◌�
 use Rattle.std.specs.Prelude.{◌⊎◌, Contains, slice_get}
 use Rattle.std.proofs.lemmas.List.Elements.{Contains-append_left, Contains-push, Contains-push_cases}
 use Rattle.std.proofs.Math.ListN.{get_or-append}
+use Rattle.std.proofs.lemmas.List.{get_or_default}
 use Rattle.std.proofs.Math.Seq.{get_or-append_seam}
 use Rattle.dps_terms.specs.Tree.{Tree}
 use Rattle.dps_theory.specs.Theory.{Theory}
 use Rattle.dps_theory.specs.Frames.{AreStaticallyEquivalent}
 use Rattle.dps_process.specs.Steps.{Config}
 use Rattle.dps_static.specs.declared.Test.{Test}
+use Rattle.dps_static.specs.declared.Comparison.{Comparison}
+use Rattle.dps_static.specs.declared.Comparison.TheVariants.{Same, Differ}
+use Rattle.dps_static.specs.Answer.{IsAnswerUnder}
+use Rattle.dps_semantics.specs.Once.{config_at}
 use Rattle.dps_replay.specs.Answers.{AreDistinct}
 use Rattle.dps_replay.specs.Collecting.{IsAdded}
-use Rattle.dps_replay.specs.Matching.{frame_at, AreAlike, AreToldBy, IsFrameAt, AreFirsts, TellApart, IsPartnerAt, HavePartners}
+use Rattle.dps_replay.specs.Matching.{frame_at, AreAlike, AreToldBy, IsFrameAt, IsFirst, AreFirsts, TellApart, IsPartnerAt, HavePartners}
 
 -- a frame looks like itself
 pub alike_itself : (theory : Theory) (frame : List Tree) → AreAlike theory frame frame
@@ -28,8 +33,8 @@ same_partner theory frame others limit place h = record {
   alike = subst (λ (f : List Tree). AreAlike theory frame f) (sym h.same) (alike_itself theory frame);
 }
 
-pub distinct_none : {A : Type 0} → AreDistinct {A} []
-distinct_none {A} i j x h k = absurd (cc)
+pub distinct_none : (A : Type 0) → AreDistinct {A = A} []
+distinct_none A i j x h k = absurd (cc)
 
 -- what is read of a list with one more item
 read_pushed : {A : Type 0} (xs : List A) (y : A) (i : ℕ) (x : A) → slice_get (xs ++ y ∷ []) i ≡ Some x → (slice_get xs i ≡ Some x) ⊎ ((i ≡ length xs) × (x ≡ y))
@@ -86,7 +91,7 @@ module _ (theory : Theory) (frame : List Tree) (others : List Config) where
   none_told = record {
     told = λ i h. absurd (omega (arith, h));
     useful = λ test h. absurd (omega (arith, h.1));
-    distinct = distinct_none;
+    distinct = distinct_none Test;
   }
 
   abbrev IsToldAt : List Test → ℕ → Type 0
@@ -106,6 +111,11 @@ module _ (theory : Theory) (frame : List Tree) (others : List Config) where
     ];
     distinct = added_distinct tests test new a h.distinct;
   }
+
+  -- one more, by an answer of a comparison
+  pub answer_told : (count : ℕ) (tests : List Test) (test : Test) (new : List Test) (answer : Comparison) → TellApart theory frame others count tests
+      → IsAnswerUnder theory frame (frame_at others count) answer → answer ≡ Differ test → IsAdded tests test new → TellApart theory frame others (count + 1) new
+  answer_told count tests test new answer h k e a = more_told count tests test new h (subst (λ (c : Comparison). IsAnswerUnder theory frame (frame_at others count) c) e k) a
 
   -- one more, whose frame stood before
   pub same_told : (count first : ℕ) (tests : List Test) → TellApart theory frame others count tests → first < count → frame_at others first ≡ frame_at others count
@@ -146,21 +156,23 @@ module _ (configs : List Config) where
   pub no_firsts : AreFirsts configs 0 []
   no_firsts = record { counted = refl; before = λ i h. absurd (omega (arith, h)); same = λ i h. absurd (omega (arith, h)) }
 
-  abbrev IsFirst : ℕ → ℕ → Type 0
-  IsFirst i first = (first ≤ i) × (frame_at configs first ≡ frame_at configs i)
-
-  reads_first : (count : ℕ) (firsts : List ℕ) (first : ℕ) → AreFirsts configs count firsts → IsFirst count first → (i : ℕ) → i < count + 1 → IsFirst i (get_or (firsts ++ first ∷ []) i 0)
+  reads_first : (count : ℕ) (firsts : List ℕ) (first : ℕ) → AreFirsts configs count firsts → IsFirst configs count first → (i : ℕ) → i < count + 1 → IsFirst configs i (get_or (firsts ++ first ∷ []) i 0)
   reads_first count firsts first h k i l = elim (below_next i count l) [
-    | inl b ↦ subst (IsFirst i) (sym (get_or-append firsts (first ∷ []) 0 i (omega (arith, b, h.counted)))) (h.before i b, h.same i b)
+    | inl b ↦ subst (IsFirst configs i) (sym (get_or-append firsts (first ∷ []) 0 i (omega (arith, b, h.counted)))) (h.before i b, h.same i b)
     | inr e ↦
-        subst (λ (n : ℕ). IsFirst n (get_or (firsts ++ first ∷ []) n 0)) (h.counted ∙ sym e)
-        (subst (IsFirst (length firsts)) (sym (get_or-append_seam firsts first [] 0)) (subst (λ (n : ℕ). IsFirst n first) (sym h.counted) k))
+        subst (λ (n : ℕ). IsFirst configs n (get_or (firsts ++ first ∷ []) n 0)) (h.counted ∙ sym e)
+        (subst (IsFirst configs (length firsts)) (sym (get_or-append_seam firsts first [] 0)) (subst (λ (n : ℕ). IsFirst configs n first) (sym h.counted) k))
   ]
 
-  pub more_firsts : (count : ℕ) (firsts : List ℕ) (first : ℕ) → AreFirsts configs count firsts → first ≤ count → frame_at configs first ≡ frame_at configs count
-      → AreFirsts configs (count + 1) (firsts ++ first ∷ [])
-  more_firsts count firsts first h l e = record {
+  pub more_firsts : (count : ℕ) (firsts : List ℕ) (first : ℕ) → AreFirsts configs count firsts → IsFirst configs count first → AreFirsts configs (count + 1) (firsts ++ first ∷ [])
+  more_firsts count firsts first h k = record {
     counted = simp length-append (omega (arith, h.counted));
-    before = λ i b. (reads_first count firsts first h (l, e) i b).0;
-    same = λ i b. (reads_first count firsts first h (l, e) i b).1;
+    before = λ i b. (reads_first count firsts first h k i b).0;
+    same = λ i b. (reads_first count firsts first h k i b).1;
   }
+
+-- the frame that was read of the configuration at the place
+pub read_frame : (configs : List Config) (i : ℕ) (c : Config) (frame : List Tree) → c ≡ get_or configs i c → i < length configs → frame ≡ c.frame → frame ≡ frame_at configs i
+read_frame configs i c frame e l f = f ∙ ap (λ (k : Config). k.frame) (e ∙ get_or_default configs i c _ l)
+
+pub ruleset for_is_alike = (same_told, answer_told, read_frame)

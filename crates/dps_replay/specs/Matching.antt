@@ -1,5 +1,5 @@
 -- Lists of configurations, each of which is compared with those of another list by its frame alone.
-use Rattle.std.specs.Prelude.{◌≡◌, ◌<◌, ◌≤◌, ◌^◌, ℕ, List, length, get_or, Contains}
+use Rattle.std.specs.Prelude.{◌≡◌, ◌<◌, ◌≤◌, ◌+◌, ◌^◌, ℕ, Bool, true, false, List, length, get_or, Contains}
 use Rattle.dps_terms.specs.Tree.{Tree}
 use Rattle.dps_theory.specs.Theory.{Theory}
 use Rattle.dps_process.specs.Steps.{Config}
@@ -44,6 +44,10 @@ pub record IsFrameAt (configs : List Config) (limit : ℕ) (frame : List Tree) (
   pub within : place < length configs
   pub same : frame_at configs place ≡ frame
 
+-- the frame stands here for the first time, or at this place before
+abbrev pub IsFirst : List Config → ℕ → ℕ → Type 0
+IsFirst configs place first = (first ≤ place) × (frame_at configs first ≡ frame_at configs place)
+
 -- for each of the first so many configurations the place of one with the same frame, not behind it
 pub record AreFirsts (configs : List Config) (count : ℕ) (firsts : List ℕ) : Type 0 where
   pub counted : length firsts ≡ count
@@ -61,6 +65,11 @@ pub record TellApart (theory : Theory) (frame : List Tree) (others : List Config
 pub record IsPartnerAt (theory : Theory) (frame : List Tree) (others : List Config) (place : ℕ) : Type 0 where
   pub within : place < length others
   pub alike : AreAlike theory frame (frame_at others place)
+
+-- the other at the place looks alike, or it is told apart too
+abbrev pub IsToldNext : Theory → List Tree → List Config → ℕ → List Test → Bool → Type 0
+IsToldNext theory frame others place tests true = IsPartnerAt theory frame others place
+IsToldNext theory frame others place tests false = TellApart theory frame others (place + 1) tests
 
 -- the place of one of the others that looks alike, or tests that tell all of them apart
 abbrev pub IsPartner : Theory → List Tree → List Config → Partner → Type 0

@@ -1,6 +1,6 @@
 //! Configurations by what they have put out.
-ghost use Rattle.std.specs.Prelude.{◌≡◌, length, IfOk, IfSome, IsTrue};
-ghost use Rattle.dps_replay.specs.Matching.{IsFrameAt, AreFirsts};
+ghost use Rattle.std.specs.Prelude.{◌≡◌, ◌<◌, length, IfOk, IfSome, IsTrue};
+ghost use Rattle.dps_replay.specs.Matching.{IsFrameAt, IsFirst, AreFirsts};
 
 use dps_bags::Places;
 use dps_recipes::Frame;
@@ -73,6 +73,27 @@ fn place_among(
     None
 }
 
+/// The place of one before with the frame of the configuration at the place, or this place, which is noted then.
+fn first_with(
+    alloc: Global,
+    configs: &[Config],
+    place: usize,
+    places: &mut Places,
+) -> Result<usize, NoMemory>
+    requires { place < length configs.now }
+    ensures { IfOk result (IsFirst configs.now place) }
+{
+    let wanted = frame(&configs[place]);
+    let digest = digest(wanted);
+    match place_among(configs, places.of(digest), place, wanted) {
+        Some(first) => Ok(first),
+        None => {
+            places.add(alloc, digest, place)?;
+            Ok(place)
+        }
+    }
+}
+
 /// Where the frames of configurations stand.
 #[derive(Drop)]
 pub(crate) struct Frames {
@@ -89,15 +110,8 @@ impl Frames {
         let mut places = Places::new(alloc);
         let mut firsts = Vec::new(alloc);
         for place in 0..configs.len() {
-            let wanted = frame(&configs[place]);
-            let digest = digest(wanted);
-            match place_among(configs, places.of(digest), place, wanted) {
-                Some(first) => firsts.push(first)?,
-                None => {
-                    places.add(alloc, digest, place)?;
-                    firsts.push(place)?;
-                }
-            }
+            let first = first_with(alloc, configs, place, &mut places)?;
+            firsts.push(first)?;
         }
         Ok(Frames { firsts, places })
     }

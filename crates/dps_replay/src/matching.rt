@@ -1,6 +1,6 @@
 //! For each configuration one of the others that looks alike.
 ghost use Rattle.std.specs.Prelude.{◌≡◌, ◌<◌, ◌^◌, length, IfOk};
-ghost use Rattle.dps_replay.specs.Matching.{HaveSize, AreLevel, AreFirsts, IsPartner, IsMatching};
+ghost use Rattle.dps_replay.specs.Matching.{HaveSize, AreLevel, AreFirsts, TellApart, IsToldNext, IsPartner, IsMatching};
 
 use crate::frames::{Frames, frame};
 use crate::tests_of::add_test;
@@ -90,12 +90,41 @@ fn compared(
 {
     let mut tests = Vec::new(alloc);
     for place in 0..others.len() {
-        if firsts[place] == place {
-            match compare(alloc, theory, wanted, frame(&others[place]))? {
-                Comparison::Same => return Ok(Partner::At(place)),
-                Comparison::Differ(test) => add_test(&mut tests, test)?,
-            }
+        if is_alike(alloc, theory, wanted, others, firsts, place, &mut tests)? {
+            return Ok(Partner::At(place));
         }
     }
     Ok(Partner::Missing(tests))
+}
+
+/// Whether the other at the place looks like the frame. Where it does not, a test is there that tells it. One whose frame stood
+/// before is told by the test of that one.
+#[tactic(auto, using(crate::proofs::Telling::for_is_alike))]
+fn is_alike(
+    alloc: Global,
+    theory: &Theory,
+    wanted: &Frame,
+    others: &[Config],
+    firsts: &[usize],
+    place: usize,
+    tests: &mut Vec<Test>,
+) -> Result<bool, NoMemory>
+    requires few { length wanted.now < 2 ^ 32 }
+    requires level { HaveSize (length wanted.now) others.now }
+    requires firsts { AreFirsts others.now (length others.now) firsts.now }
+    requires within { place < length others.now }
+    requires before { TellApart theory.now wanted.now others.now place tests.old.items }
+    ensures { IfOk result (λ alike. IsToldNext theory.now wanted.now others.now place tests.new.items alike) }
+{
+    if firsts[place] < place {
+        return Ok(false);
+    }
+    let answer = compare(alloc, theory, wanted, frame(&others[place]))?;
+    match answer {
+        Comparison::Same => Ok(true),
+        Comparison::Differ(test) => {
+            add_test(tests, test)?;
+            Ok(false)
+        }
+    }
 }

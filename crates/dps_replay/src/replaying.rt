@@ -33,7 +33,8 @@ pub fn replay(alloc: Global, problem: &Problem, side: Side, word: &[Label]) -> R
         Runs::Stuck(label) => Ok(Replay::NoRun { label }),
         Runs::Ends(ends) => {
             let others = all_ends(alloc, problem, opposite(side), word)?;
-            verdict(alloc, problem.theory(), ends, &others)
+            let answer = verdict(alloc, problem.theory(), ends, &others)?;
+            Ok(answer)
         }
     }
 }
