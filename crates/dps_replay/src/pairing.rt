@@ -1,5 +1,6 @@
 //! Ends beside their partners.
-ghost use Rattle.std.specs.Prelude.{◌≡◌, IfOk};
+ghost use Rattle.std.specs.Prelude.{◌≡◌, ◌<◌, length, get_or, IfOk};
+ghost use Rattle.dps_semantics.specs.Once.{config_at};
 ghost use Rattle.dps_replay.specs.Matching.{AreLevel, AreWithin, ArePaired, IsVerdict};
 
 use crate::Replay;
@@ -12,6 +13,7 @@ use dps_theory::Theory;
 use std::alloc::{AllocError, Global};
 
 /// An end that none of the others looks like, or a pair for each end.
+#[tactic(auto, using(crate::proofs::Partners::for_verdict))]
 pub(crate) fn verdict(
     alloc: Global,
     theory: &Theory,
@@ -26,9 +28,10 @@ pub(crate) fn verdict(
             end: ends.swap_remove(place),
             tests,
         }),
-        Matching::All(partners) => Ok(Replay::Matched {
-            pairs: pairs(alloc, ends, others, &partners)?,
-        }),
+        Matching::All(partners) => {
+            let found = pairs(alloc, ends, others, &partners)?;
+            Ok(Replay::Matched { pairs: found })
+        }
     }
 }
 
@@ -45,10 +48,26 @@ fn pairs(
     let mut left = ends;
     let mut pairs = Vec::with_capacity(alloc, left.len())?;
     while let Some(end) = left.pop() {
-        let other = copy(alloc, &others[partners[left.len()]])?;
+        let other = partner(alloc, others, partners, left.len())?;
         pairs.push((end, other))?;
     }
     Ok(pairs)
+}
+
+/// The partner of the end at the place, in memory of its own.
+fn partner(
+    alloc: Global,
+    others: &[Config],
+    partners: &[usize],
+    place: usize,
+) -> Result<Config, NoMemory>
+    requires place { place < length partners.now }
+    requires partner { get_or partners.now place 0 < length others.now }
+    ensures { IfOk result (λ config. config ≡ config_at others.now (get_or partners.now place 0)) }
+{
+    let partner = partners[place];
+    let config = copy(alloc, &others[partner])?;
+    Ok(config)
 }
 
 /// The same configuration, in memory of its own.
