@@ -127,14 +127,14 @@ module _ (problem : Problem) (side : Side) (word : List Label) (ends others : Li
   unmatched decide end tests h t = record {
     reached = end_is end h;
     unlike = λ d e a.
-      (let test = told end tests h t d e in
-      let same : Differ test.0 ≡ Same = (decide problem.signature problem.theory end.frame d.frame (Differ test.0) test.2).1 a in
-      cc);
+        (let test = told end tests h t d e in
+        let same : Differ test.0 ≡ Same = (decide problem.signature problem.theory end.frame d.frame (Differ test.0) test.2).1 a in
+        cc);
     told = told end tests h t;
     useful = λ test c.
-      (let u = t.useful test c in
-      let there = Contains-get_or others u.0 _ u.1 in
-      (config_at others u.0, other_is (config_at others u.0) there, told_by end (config_at others u.0) test h there u.2));
+        (let u = t.useful test c in
+        let there = Contains-get_or others u.0 _ u.1 in
+        (config_at others u.0, other_is (config_at others u.0) there, told_by end (config_at others u.0) test h there u.2));
     distinct = t.distinct;
   }
 
@@ -143,32 +143,32 @@ module _ (problem : Problem) (side : Side) (word : List Label) (ends others : Li
     frame = end.frame;
     trace = end_trace end h;
     unmatched = λ m.
-      (let one = (has_others.frames m.other).1 m.trace in
-      let alike = subst (λ (f : List Tree). AreStaticallyEquivalent problem.signature problem.theory end.frame f) (sym one.2) m.equivalent in
-      u.unlike one.0 (other_is one.0 one.1) alike);
+        (let one = (has_others.frames m.other).1 m.trace in
+        let alike = subst (λ (f : List Tree). AreStaticallyEquivalent problem.signature problem.theory end.frame f) (sym one.2) m.equivalent in
+        u.unlike one.0 (other_is one.0 one.1) alike);
   }
 
   matched : (pairs : List (Config × Config)) → 0 < length ends → ArePairs problem.theory ends others pairs → AreMatched problem side word pairs
   matched pairs some h = record {
     run = (config_at ends 0, end_is (config_at ends 0) (Contains-get_or ends 0 _ some));
     no_attack = λ a.
-      (let one = (has.frames a.frame).1 a.trace in
-      let spot = place_of ends one.0 one.1 in
-      let pair = h.complete spot.0 spot.1 in
-      let is = h.alike (config_at ends spot.0) pair.0 pair.1 in
-      let alike = look_alike (config_at ends spot.0) pair.0 is.0 is.1 is.2 in
-      let same : frame_at ends spot.0 ≡ a.frame = ap (λ (c : Config). c.frame) spot.2 ∙ one.2 in
-      a.unmatched (record {
-        other = pair.0.frame;
-        trace = other_trace pair.0 is.1;
-        equivalent = subst (λ (f : List Tree). AreStaticallyEquivalent problem.signature problem.theory f pair.0.frame) same alike;
-      }));
+        (let one = (has.frames a.frame).1 a.trace in
+        let spot = place_of ends one.0 one.1 in
+        let pair = h.complete spot.0 spot.1 in
+        let is = h.alike (config_at ends spot.0) pair.0 pair.1 in
+        let alike = look_alike (config_at ends spot.0) pair.0 is.0 is.1 is.2 in
+        let same : frame_at ends spot.0 ≡ a.frame = ap (λ (c : Config). c.frame) spot.2 ∙ one.2 in
+        a.unmatched (record {
+          other = pair.0.frame;
+          trace = other_trace pair.0 is.1;
+          equivalent = subst (λ (f : List Tree). AreStaticallyEquivalent problem.signature problem.theory f pair.0.frame) same alike;
+        }));
     alike = λ c d k. (let is = h.alike c d k in (end_is c is.0, other_is d is.1, look_alike c d is.0 is.1 is.2));
     complete = λ c e.
-      (let one = (has.just c).1 e in
-      let spot = place_of ends one.0 one.1 in
-      let pair = h.complete spot.0 spot.1 in
-      (config_at ends spot.0, pair.0, pair.1, subst (λ (k : Config). AreOneBag k c) (sym spot.2) one.2));
+        (let one = (has.just c).1 e in
+        let spot = place_of ends one.0 one.1 in
+        let pair = h.complete spot.0 spot.1 in
+        (config_at ends spot.0, pair.0, pair.1, subst (λ (k : Config). AreOneBag k c) (sym spot.2) one.2));
   }
 
   pub answered : AnswersDecide → 0 < length ends → (answer : Replay) → IsVerdict problem.theory ends others answer → IsReplay problem side word answer

@@ -59,7 +59,7 @@ module _ (ends others : List Config) (partners : List ℕ) where
       let is : end ≡ config_at ends (length rest) = sym there ∙ h.same (length rest) (omega (arith, size)) in
       let later : ArePaired ends others partners (length rest + 1) pairs = subst (λ (k : ℕ). ArePaired ends others partners k pairs) size h.paired in
       let pair : ◌≡◌ {A = Config × Config} (end, other) (pair_at ends others partners (length rest)) =
-        ap (λ (c : Config). (c, other)) is ∙ ap (λ (d : Config). (config_at ends (length rest), d)) o in
+      ap (λ (c : Config). (c, other)) is ∙ ap (λ (d : Config). (config_at ends (length rest), d)) o in
       let all : new ≡ pairs ++ pair_at ends others partners (length rest) ∷ [] = n ∙ ap (λ (p : Config × Config). pairs ++ p ∷ []) pair in record {
         short = omega (arith, size, h.short);
         same = λ i l. (sym (get_or-append rest (end ∷ []) no_config i l) ∙ (ap (λ (cs : List Config). config_at cs i) (sym e) ∙ h.same i (omega (arith, size, l))));
@@ -75,11 +75,11 @@ pub paired_alike : (theory : Theory) (ends others : List Config) (partners : Lis
     → ArePaired ends others partners 0 pairs → ArePairs theory ends others pairs
 paired_alike theory ends others partners pairs h p = record {
   alike = λ c d k.
-    (let spot = p.sound (c, d) k in
-    let one = h.partner spot.0 spot.1 in
-    let here : IsPairOf theory ends others (config_at ends spot.0) (config_at others (get_or partners spot.0 0)) =
+      (let spot = p.sound (c, d) k in
+      let one = h.partner spot.0 spot.1 in
+      let here : IsPairOf theory ends others (config_at ends spot.0) (config_at others (get_or partners spot.0 0)) =
       (Contains-get_or ends spot.0 _ spot.1, Contains-get_or others (get_or partners spot.0 0) _ one.within, one.alike) in
-    subst (λ (pair : Config × Config). IsPairOf theory ends others pair.0 pair.1) spot.2 here);
+      subst (λ (pair : Config × Config). IsPairOf theory ends others pair.0 pair.1) spot.2 here);
   complete = λ i b. (config_at others (get_or partners i 0), p.complete i (omega arith) b);
 }
 

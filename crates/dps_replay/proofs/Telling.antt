@@ -52,13 +52,13 @@ pub distinct_more : {A : Type 0} (xs : List A) (y : A) → AreDistinct xs → ¬
 distinct_more xs y d n i j x h k =
     elim (read_pushed xs y i x h) [
       | inl a ↦ elim (read_pushed xs y j x k) [
-          | inl b ↦ d i j x a b
-          | inr b ↦ absurd (n (subst (λ z. Contains xs z) b.1 (read_contains xs i x a)))
-        ]
+        | inl b ↦ d i j x a b
+        | inr b ↦ absurd (n (subst (λ z. Contains xs z) b.1 (read_contains xs i x a)))
+      ]
       | inr a ↦ elim (read_pushed xs y j x k) [
-          | inl b ↦ absurd (n (subst (λ z. Contains xs z) a.1 (read_contains xs j x b)))
-          | inr b ↦ a.0 ∙ sym b.0
-        ]
+        | inl b ↦ absurd (n (subst (λ z. Contains xs z) a.1 (read_contains xs j x b)))
+        | inr b ↦ a.0 ∙ sym b.0
+      ]
     ]
 
 -- a test that was added stands in the list, and so do those from before

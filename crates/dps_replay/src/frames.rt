@@ -57,12 +57,7 @@ fn is_at(configs: &[Config], limit: usize, place: usize, wanted: &Frame) -> bool
 }
 
 /// The first of the places, below the limit, at which a configuration has the frame.
-fn place_among(
-    configs: &[Config],
-    places: &[usize],
-    limit: usize,
-    wanted: &Frame,
-) -> Option<usize>
+fn place_among(configs: &[Config], places: &[usize], limit: usize, wanted: &Frame) -> Option<usize>
     ensures { IfSome result (IsFrameAt configs.now limit wanted.now) }
 {
     for place in places {
@@ -120,6 +115,11 @@ impl Frames {
     pub(crate) fn place_of(&self, configs: &[Config], wanted: &Frame) -> Option<usize>
         ensures { IfSome result (IsFrameAt configs.now (length configs.now) wanted.now) }
     {
-        place_among(configs, self.places.of(digest(wanted)), configs.len(), wanted)
+        place_among(
+            configs,
+            self.places.of(digest(wanted)),
+            configs.len(),
+            wanted,
+        )
     }
 }

@@ -21,7 +21,12 @@ use std::alloc::{AllocError, Global};
 /// other side looks alike, with tests that tell each of these from it, where there is one; or else a pair for each end.
 ///
 /// Both sides run in the problem's model. The word has fewer than 2^31 labels. It fails for want of memory alone.
-pub fn replay(alloc: Global, problem: &Problem, side: Side, word: &[Label]) -> Result<Replay, NoMemory>
+pub fn replay(
+    alloc: Global,
+    problem: &Problem,
+    side: Side,
+    word: &[Label],
+) -> Result<Replay, NoMemory>
     requires { length word.now < 2 ^ 31 }
     ensures { IfOk result (IsReplay problem.now side (map label_of word.now)) }
 {
