@@ -1,15 +1,10 @@
 //! What files mean, in plain numbers: how many nodes each side has, and how many rules the theory has, with those of
 //! projections, and the file writes; or the place and the text of the first fault.
-ghost use Rattle.dps_names.specs.Answers.{IsProgram};
 ghost use Rattle.dps_meaning.specs.Meaning.{AreOfText};
 
 use crate::{ElabRefusal, cause_text, check_theory, problem, theory_of};
 use dps_branch::Side;
-use dps_elab::{Sides, expand};
-use dps_names::laws::rules_are_checkable;
-use dps_names::{Program, resolve};
 use dps_process::CommModel;
-use dps_rules::theory_of as theory_of_program;
 use dps_syntax::{File, read_file};
 use dps_terms::NoMemory;
 use std::alloc::{AllocError, Global};
@@ -53,81 +48,13 @@ fn meaning(alloc: Global, file: &File) -> Result<String, NoMemory>
     }
 }
 
-/// How many symbols, names, rules and definitions a file has.
-fn counts(program: &Program) -> [usize; 4] {
-    [
-        program.signature.symbol_count() as usize,
-        program.signature.name_count() as usize,
-        program.rules.len(),
-        program.definitions.len(),
-    ]
-}
-
-/// How many rules its theory has.
-#[tactic(auto, using(crate::proofs::Answering::checkable))]
-fn rule_count(alloc: Global, file: &File, program: &Program) -> Option<usize>
-    requires read { AreOfText file.now.declarations.items }
-    requires named { IsProgram file.now.declarations.items program.now }
-{
-    rules_are_checkable();
-    match theory_of_program(alloc, program) {
-        Ok(theory) => Some(theory.rules().len()),
-        Err(_) => None,
-    }
-}
-
-/// How many nodes its sides have, written out.
-fn sizes(alloc: Global, program: &Program) -> Option<(u64, u64)> {
-    match expand(alloc, program) {
-        Ok(Sides { left, right }) => Some((left.size(), right.size())),
-        Err(_) => None,
-    }
-}
-
-fn phases(alloc: Global, file: &File) -> Result<String, NoMemory>
-    requires { AreOfText file.now.declarations.items }
-{
-    match resolve(alloc, file) {
-        Ok(program) => {
-            let rules = rule_count(alloc, file, &program);
-            phases_text(alloc, counts(&program), rules, sizes(alloc, &program))
-        }
-        Err(_) => String::from_str(alloc, "no program"),
-    }
-}
-
-fn phases_text(
-    alloc: Global,
-    counts: [usize; 4],
-    rules: Option<usize>,
-    sizes: Option<(u64, u64)>,
-) -> Result<String, NoMemory> {
-    let [symbols, names, written, definitions] = counts;
-    match (rules, sizes) {
-        (Some(rules), Some((left, right))) => {
-            format!(in alloc; "{symbols} {names} {written} {definitions}, {rules}, {left} {right}")
-        }
-        _ => String::from_str(alloc, "no theory or no sides"),
-    }
-}
-
-/// What is asked of a file: its meaning at once, or phase by phase.
-#[derive(Clone, Copy)]
-enum Ask {
-    Meaning,
-    Phases,
-}
-
 #[tactic(auto, using(crate::proofs::OneMeaning::of_text))]
-fn answer_to(alloc: Global, ask: Ask, text: &str) -> Result<String, NoMemory> {
+fn answer_to(alloc: Global, text: &str) -> Result<String, NoMemory> {
     if text.len() > 1000 {
         return String::from_str(alloc, "too long");
     }
     match read_file(alloc, text.as_bytes()) {
-        Ok(file) => match ask {
-            Ask::Meaning => meaning(alloc, &file),
-            Ask::Phases => phases(alloc, &file),
-        },
+        Ok(file) => meaning(alloc, &file),
         Err(_) => String::from_str(alloc, "no file"),
     }
 }
@@ -150,17 +77,8 @@ fn files_have_their_meanings(rt: HostRuntime) -> Result<(), Fail> {
             "1:42 private channel in a term",
         ),
     ] {
-        let found = answer_to(rt.alloc(), Ask::Meaning, text)?;
+        let found = answer_to(rt.alloc(), text)?;
         assert_eq!(rt; found.as_str(), wanted, "at {text}");
     }
-    Ok(())
-}
-
-#[test]
-fn each_phase_answers(rt: HostRuntime) -> Result<(), Fail> {
-    let text =
-        "free c. free k[private]. fun h/1. reduc g(h((x,y))) -> x. let P(x) = out(c,h(x)). query trace_equiv(P(k),0).";
-    let found = answer_to(rt.alloc(), Ask::Phases, text)?;
-    assert_eq!(rt; found.as_str(), "5 2 1 1, 3, 4 1");
     Ok(())
 }
