@@ -5,11 +5,9 @@ use Rattle.std.proofs.lemmas.List.{take-append-drop, drop_all, drop_more}
 use Rattle.std.proofs.lemmas.Bool.{cases_Bool, cases_lt, eqb-true, eq-eqb}
 use Rattle.std.proofs.lemmas.List.Elements.{Contains-append_left, Contains-push, Contains-push_cases}
 use Rattle.std.proofs.lemmas.Option.{slice_get_within, slice_get-get_or, get_or_from_slice_get}
-use Rattle.dps_terms.specs.declared.Sym.{Sym}
-use Rattle.dps_terms.specs.declared.PublicName.TheVariants.{Declared, At}
-use Rattle.dps_terms.specs.declared.borrowed.TermView.{TermView}
-use Rattle.dps_terms.specs.declared.borrowed.TermView.TheVariants.{App, Public, Private, Var, Ax, Entry, Rigid}
-use Rattle.dps_terms.specs.Tree.{Leaf, public, private, var, ax, entry, rigid, Tree, Trees, leaf, app, none, more, list_of, StandsIn, IsAmong, below, in_first, in_rest}
+use Rattle.dps_terms.specs.declared.PublicName.TheVariants.{At}
+use Rattle.dps_terms.specs.declared.borrowed.TermView.TheVariants.{Public, Rigid}
+use Rattle.dps_terms.specs.Tree.{Leaf, public, rigid, Tree, Trees, leaf, app, none, more, list_of, StandsIn, IsAmong, below, in_first, in_rest}
 use Rattle.dps_terms.specs.Views.{view_of, arguments}
 use Rattle.dps_unify.proofs.Trees.{in_leaf}
 use Rattle.dps_static.specs.Naming.{Adds, AddsRoot, AreRising, IsNamed, AreNamed, AreNew, number_of}

@@ -1,5 +1,5 @@
 -- Steps by which ways are put on a stack.
-use Rattle.std.proofs.Common.{◌≡◌, ℕ, zero, suc, ◌+◌, ◌*◌, ◌-◌, ◌<◌, ◌≤◌, List, [], ◌∷◌, ◌++◌, length, map, take, drop, refl, ap, sym, ◌∙◌, subst, inl, inr, arith, append_assoc, length-append}
+use Rattle.std.proofs.Common.{◌≡◌, ℕ, suc, ◌+◌, ◌*◌, ◌-◌, ◌<◌, ◌≤◌, List, [], ◌∷◌, ◌++◌, length, take, drop, refl, ap, sym, ◌∙◌, subst, inl, inr, arith, append_assoc, length-append}
 use Rattle.std.specs.Prelude.{◌⊎◌, reverse, Bool, true, false, MatchBool}
 use Rattle.std.proofs.lemmas.List.{map-append, reverse-append, length-drop}
 use Rattle.dps_terms.specs.declared.Sym.{Sym}
@@ -12,9 +12,9 @@ use Rattle.dps_terms.specs.Seen.{seen}
 use Rattle.dps_terms.specs.Kinds.{IsBuiltOf, AreBuiltOf}
 use Rattle.dps_static.specs.declared.build.Step.{Step}
 use Rattle.dps_static.specs.declared.build.Step.TheVariants.{Build, Apply}
-use Rattle.dps_static.specs.Ways.{Builds, IsNotBuilt, Composes, IsNotComposed, PutsComposed, IsNotKept}
+use Rattle.dps_static.specs.Ways.{Builds, IsNotBuilt, Composes, IsNotComposed, IsNotKept}
 use Rattle.dps_static.specs.Steps.{CanTake, AreTaken, HasNoWay, work, Leads}
-use Rattle.dps_static.proofs.Ways.{AreListedWays, ArePutWays, AreOpenWays, put_all, composed_put, composed_app, no_app_leaf, entry_or_composed}
+use Rattle.dps_static.proofs.Ways.{ArePutWays, AreOpenWays, put_all, composed_put, composed_app, no_app_leaf, entry_or_composed}
 
 -- one step more, which is taken first
 pub one_first : (steps : List Step) (s : Step) → reverse (steps ++ s ∷ []) ≡ s ∷ reverse steps

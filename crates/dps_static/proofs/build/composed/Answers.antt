@@ -1,5 +1,3 @@
-use Rattle.std.proofs.Common.{◌≡◌, [], true, false, sym, subst}
-use Rattle.std.specs.Prelude.{MatchBool}
 use Rattle.dps_terms.specs.Tree.{node_count}
 use Rattle.dps_terms.specs.Seen.{seen}
 use Rattle.dps_static.specs.Ways.{Composes, IsNotComposed}

@@ -4,7 +4,7 @@ use Rattle.std.proofs.lemmas.Option.{slice_get_within, get_or_from_slice_get}
 use Rattle.dps_terms.specs.declared.borrowed.TermView.TheVariants.{App}
 use Rattle.dps_terms.specs.Views.{arguments}
 use Rattle.dps_terms.specs.Seen.{seen}
-use Rattle.dps_static.specs.declared.build.Step.TheVariants.{Build, Apply}
+use Rattle.dps_static.specs.declared.build.Step.TheVariants.{Apply}
 use Rattle.dps_static.proofs.Taking.{IsOpening, opened, opened_further, all_opened}
 use Rattle.dps_static.proofs.build.put_composed.Goals as goal
 

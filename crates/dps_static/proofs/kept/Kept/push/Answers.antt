@@ -1,4 +1,4 @@
-use Rattle.std.proofs.Common.{◌≡◌, length, sym, subst}
+use Rattle.std.proofs.Common.{length, sym, subst}
 use Rattle.dps_terms.specs.Tree.{node_count}
 use Rattle.dps_terms.specs.Seen.{seen}
 use Rattle.dps_terms.specs.Digest.{digest}
