@@ -1,4 +1,5 @@
 pub mod Ways
+pub mod Taking
 pub mod Following
 pub mod Frames
 pub mod Covering

@@ -1,156 +1,124 @@
 -- Numbers of names, as they are collected and as new ones are chosen.
-use Rattle.std.proofs.Common.{◌≡◌, ℕ, zero, suc, ◌+◌, ◌<◌, ◌≤◌, List, [], ◌∷◌, ◌++◌, drop, length, slice_get, nat_eq, Some, refl, sym, ◌∙◌, ap, subst, arith, inl, inr, true, false}
+use Rattle.std.proofs.Common.{◌≡◌, ℕ, zero, suc, ◌+◌, ◌<◌, ◌≤◌, List, [], ◌∷◌, ◌++◌, take, drop, length, slice_get, nat_eq, Some, refl, sym, ◌∙◌, ap, subst, arith, inl, inr, true, false}
 use Rattle.std.specs.Prelude.{◌⊎◌, Contains, cond, ⊤}
-use Rattle.std.proofs.lemmas.List.{drop_all, drop_more}
+use Rattle.std.proofs.lemmas.List.{take-append-drop, drop_all, drop_more}
 use Rattle.std.proofs.lemmas.Bool.{cases_Bool, cases_lt, eqb-true, eq-eqb}
 use Rattle.std.proofs.lemmas.List.Elements.{Contains-append_left, Contains-push, Contains-push_cases}
 use Rattle.std.proofs.lemmas.Option.{slice_get_within, slice_get-get_or, get_or_from_slice_get}
-use Rattle.dps_terms.specs.declared.Sym.{Sym}
-use Rattle.dps_terms.specs.declared.PublicName.TheVariants.{Declared, At}
-use Rattle.dps_terms.specs.declared.borrowed.TermView.{TermView}
-use Rattle.dps_terms.specs.declared.borrowed.TermView.TheVariants.{App, Public, Private, Var, Ax, Entry, Rigid}
-use Rattle.dps_terms.specs.Tree.{Leaf, public, private, var, ax, entry, rigid, Tree, Trees, leaf, app, none, more, list_of, StandsIn, IsAmong, below, in_first, in_rest}
+use Rattle.dps_terms.specs.declared.PublicName.TheVariants.{At}
+use Rattle.dps_terms.specs.declared.borrowed.TermView.TheVariants.{Public, Rigid}
+use Rattle.dps_terms.specs.Tree.{Leaf, public, rigid, Tree, Trees, leaf, app, none, more, list_of, StandsIn, IsAmong, below, in_first, in_rest}
 use Rattle.dps_terms.specs.Views.{view_of, arguments}
 use Rattle.dps_unify.proofs.Trees.{in_leaf}
-use Rattle.dps_static.specs.Naming.{Adds, AreRising, IsNamed, AreNamed, AreNew, number_of}
+use Rattle.dps_static.specs.Naming.{Adds, AddsRoot, AreRising, IsNamed, AreNamed, AreNew, number_of}
 use Rattle.dps_static.specs.declared.naming.NewName.{NewName}
 use Rattle.dps_static.specs.declared.naming.Numbers.{Numbers}
 
--- the numbers of the trees before a place were added
-pub record AddsFirst (old new : Numbers) (ts : List Tree) (n : ℕ) : Type 0 where
+-- the leaf stands in one of the trees
+abbrev pub Holds : Leaf → List Tree → Type 0
+Holds x [] = ⊥
+Holds x (t ∷ ts) = StandsIn x t ⊎ Holds x ts
+
+-- the trees behind a node
+parts_behind : (t : Tree) (here after : List Tree) → arguments t ≡ take (length (arguments t)) after → after ≡ arguments t ++ drop (length (arguments t)) after
+parts_behind t here after front = sym (take-append-drop (length (arguments t)) after) ∙ ap (λ us. us ++ drop (length (arguments t)) after) (sym front)
+
+-- the numbers of names in the tree were added, but for names in the trees that are left
+pub record AddsUpTo (old new : Numbers) (t : Tree) (left : List Tree) : Type 0 where
   pub rigid_kept : (k : ℕ) → Contains old.rigid.items k → Contains new.rigid.items k
   pub own_kept : (k : ℕ) → Contains old.own.items k → Contains new.own.items k
-  pub rigid_there : (i : ℕ) (t : Tree) (k : ℕ) → i < n → slice_get ts i ≡ Some t → StandsIn (rigid k) t → Contains new.rigid.items k
-  pub own_there : (i : ℕ) (t : Tree) (k : ℕ) → i < n → slice_get ts i ≡ Some t → StandsIn (public (At k)) t → Contains new.own.items k
+  pub rigid_there : (k : ℕ) → StandsIn (rigid k) t → Contains new.rigid.items k ⊎ Holds (rigid k) left
+  pub own_there : (k : ℕ) → StandsIn (public (At k)) t → Contains new.own.items k ⊎ Holds (public (At k)) left
 
-pub adds_none : (numbers : Numbers) (ts : List Tree) → AddsFirst numbers numbers ts 0
-adds_none numbers ts = record {
+pub adds_none : (numbers : Numbers) (t : Tree) (left : List Tree) → left ≡ t ∷ [] → AddsUpTo numbers numbers t left
+adds_none numbers t left e = record {
   rigid_kept = λ k c. c;
   own_kept = λ k c. c;
-  rigid_there = λ i t k h. absurd (omega (arith, h));
-  own_there = λ i t k h. absurd (omega (arith, h));
+  rigid_there = λ k s. inr (subst (Holds (rigid k)) (sym e) (inl s));
+  own_there = λ k s. inr (subst (Holds (public (At k))) (sym e) (inl s));
 }
 
-pub adds_next : (old middle new : Numbers) (ts : List Tree) (n : ℕ) (t : Tree) → slice_get ts n ≡ Some t → AddsFirst old middle ts n → Adds middle new t → AddsFirst old new ts (n + 1)
-adds_next old middle new ts n t e before one = record {
-  rigid_kept = λ k c. one.rigid_kept k (before.rigid_kept k c);
-  own_kept = λ k c. one.own_kept k (before.own_kept k c);
-  rigid_there = λ i u k h d s. rigid_at i u k d s (cases_lt i n) h;
-  own_there = λ i u k h d s. own_at i u k d s (cases_lt i n) h;
-}
-  where
-    same : (i : ℕ) (u : Tree) → slice_get ts i ≡ Some u → i ≡ n → t ≡ u
-    same i u d m = let c : Some t ≡ Some u = sym e ∙ (ap (slice_get ts) (sym m) ∙ d) in cc
-
-    rigid_at : (i : ℕ) (u : Tree) (k : ℕ) → slice_get ts i ≡ Some u → StandsIn (rigid k) u → (i < n) ⊎ (n ≤ i) → i < n + 1 → Contains new.rigid.items k
-    rigid_at i u k d s (inl l) h = one.rigid_kept k (before.rigid_there i u k l d s)
-    rigid_at i u k d s (inr l) h = one.rigid_there k (subst (StandsIn (rigid k)) (sym (same i u d (omega (arith, l, h)))) s)
-
-    own_at : (i : ℕ) (u : Tree) (k : ℕ) → slice_get ts i ≡ Some u → StandsIn (public (At k)) u → (i < n) ⊎ (n ≤ i) → i < n + 1 → Contains new.own.items k
-    own_at i u k d s (inl l) h = one.own_kept k (before.own_there i u k l d s)
-    own_at i u k d s (inr l) h = one.own_there k (subst (StandsIn (public (At k))) (sym (same i u d (omega (arith, l, h)))) s)
-
--- a leaf among trees stands in one of them
-pub record IsAt (x : Leaf) (ts : List Tree) : Type 0 where
-  pub place : ℕ
-  pub tree : Tree
-  pub there : slice_get ts place ≡ Some tree
-  pub stands : StandsIn x tree
-
-among_at : (x : Leaf) (ts : Trees) → IsAmong (leaf x) ts → IsAt x (list_of ts)
-among_at x none k = elim k [ ]
-among_at x (more t ts) (in_first k) = record { place = 0; tree = t; there = refl; stands = k }
-among_at x (more t ts) (in_rest k) = let a = among_at x ts k in record { place = suc a.place; tree = a.tree; there = a.there; stands = a.stands }
-
-stands_below : (x : Leaf) (f : Sym) (ts : Trees) → StandsIn x (app f ts) → IsAmong (leaf x) ts
-stands_below x f ts (below k) = k
-
-pub adds_all : (old new : Numbers) (t : Tree) (f : Sym) (n : ℕ) → App f ≡ view_of t → length (arguments t) ≤ n → AddsFirst old new (arguments t) n → Adds old new t
-adds_all old new (leaf (public a)) f n v h all = cc
-adds_all old new (leaf (private a)) f n v h all = cc
-adds_all old new (leaf (var a)) f n v h all = cc
-adds_all old new (leaf (ax a)) f n v h all = cc
-adds_all old new (leaf (entry a)) f n v h all = cc
-adds_all old new (leaf (rigid a)) f n v h all = cc
-adds_all old new (app g ts) f n v h all = record {
+pub adds_all : (old new : Numbers) (t : Tree) (left : List Tree) → left ≡ [] → AddsUpTo old new t left → Adds old new t
+adds_all old new t left e all = record {
   rigid_kept = all.rigid_kept;
   own_kept = all.own_kept;
-  rigid_there = λ k s.
-      let a = among_at (rigid k) ts (stands_below (rigid k) g ts s) in
-      let l = slice_get_within (list_of ts) a.place a.tree a.there in
-      all.rigid_there a.place a.tree k (omega (arith, l, h)) a.there a.stands;
-  own_there = λ k s.
-      let a = among_at (public (At k)) ts (stands_below (public (At k)) g ts s) in
-      let l = slice_get_within (list_of ts) a.place a.tree a.there in
-      all.own_there a.place a.tree k (omega (arith, l, h)) a.there a.stands;
+  rigid_there = λ k s. elim (all.rigid_there k s) [ inl c ↦ c | inr h ↦ absurd (subst (Holds (rigid k)) e h) ];
+  own_there = λ k s. elim (all.own_there k s) [ inl c ↦ c | inr h ↦ absurd (subst (Holds (public (At k))) e h) ];
 }
 
--- leaves
-last_there : (ns : List ℕ) (n : ℕ) → Contains (ns ++ n ∷ []) n
-last_there ns n = Contains-push ns n
+-- a leaf in the first tree is its root, or stands in its arguments
+among_holds : (x : Leaf) (ts : Trees) (us : List Tree) → IsAmong (leaf x) ts → Holds x (list_of ts ++ us)
+among_holds x none us k = elim k [ ]
+among_holds x (more t ts) us (in_first k) = inl k
+among_holds x (more t ts) us (in_rest k) = inr (among_holds x ts us k)
 
-pub adds_rigid : (old new : Numbers) (t : Tree) (n : ℕ) → Rigid n ≡ view_of t → new.rigid.items ≡ old.rigid.items ++ n ∷ [] → new.own.items ≡ old.own.items → Adds old new t
-adds_rigid old new (leaf (public a)) n v e d = cc
-adds_rigid old new (leaf (private a)) n v e d = cc
-adds_rigid old new (leaf (var a)) n v e d = cc
-adds_rigid old new (leaf (ax a)) n v e d = cc
-adds_rigid old new (leaf (entry a)) n v e d = cc
-adds_rigid old new (app g ts) n v e d = cc
-adds_rigid old new (leaf (rigid a)) n v e d = record {
+first_holds : (x : Leaf) (t : Tree) (us : List Tree) → StandsIn x t → (leaf x ≡ t) ⊎ Holds x (arguments t ++ us)
+first_holds x (leaf y) us s = inl (in_leaf y (leaf x) s)
+first_holds x (app f ts) us (below k) = inr (among_holds x ts us k)
+
+behind_holds : (x : Leaf) (ts us : List Tree) → Holds x us → Holds x (ts ++ us)
+behind_holds x [] us k = k
+behind_holds x (t ∷ ts) us k = inr (behind_holds x ts us k)
+
+next_holds :
+    (x : Leaf) (t : Tree) (here after : List Tree) → here ≡ t ∷ drop (length (arguments t)) after → arguments t ≡ take (length (arguments t)) after → Holds x here
+    → (leaf x ≡ t) ⊎ Holds x after
+next_holds x t here after first front h =
+    let rest = drop (length (arguments t)) after in
+    subst (λ us. (leaf x ≡ t) ⊎ Holds x us) (sym (parts_behind t here after front)) (at (subst (Holds x) first h))
+  where
+    at : Holds x (t ∷ drop (length (arguments t)) after) → (leaf x ≡ t) ⊎ Holds x (arguments t ++ drop (length (arguments t)) after)
+    at (inl s) = first_holds x t (drop (length (arguments t)) after) s
+    at (inr k) = inr (behind_holds x (arguments t) (drop (length (arguments t)) after) k)
+
+pub adds_next :
+    (old now new : Numbers) (whole t : Tree) (here after : List Tree) → here ≡ t ∷ drop (length (arguments t)) after → arguments t ≡ take (length (arguments t)) after
+    → AddsUpTo old now whole here → AddsRoot now new t → AddsUpTo old new whole after
+adds_next old now new whole t here after first front up root = record {
+  rigid_kept = λ k c. root.rigid_kept k (up.rigid_kept k c);
+  own_kept = λ k c. root.own_kept k (up.own_kept k c);
+  rigid_there = λ k s.
+      elim (up.rigid_there k s) [
+        | inl c ↦ inl (root.rigid_kept k c)
+        | inr h ↦ elim (next_holds (rigid k) t here after first front h) [ inl e ↦ inl (root.rigid_there k (ap view_of e)) | inr o ↦ inr o ]
+      ];
+  own_there = λ k s.
+      elim (up.own_there k s) [
+        | inl c ↦ inl (root.own_kept k c)
+        | inr h ↦ elim (next_holds (public (At k)) t here after first front h) [ inl e ↦ inl (root.own_there k (ap view_of e)) | inr o ↦ inr o ]
+      ];
+}
+
+-- the root
+pub adds_rigid : (old new : Numbers) (t : Tree) (n : ℕ) → Rigid n ≡ view_of t → new.rigid.items ≡ old.rigid.items ++ n ∷ [] → new.own.items ≡ old.own.items → AddsRoot old new t
+adds_rigid old new t n v e d = record {
   rigid_kept = λ k c. subst (λ ns. Contains ns k) (sym e) (Contains-append_left old.rigid.items (n ∷ []) k c);
   own_kept = λ k c. subst (λ ns. Contains ns k) (sym d) c;
-  rigid_there = λ k s.
-      let m = in_leaf (rigid a) (leaf (rigid k)) s in
+  rigid_there = λ k u.
+      let both : Rigid n ≡ Rigid k = v ∙ sym u in
       let same : n ≡ k = cc in
-      subst (λ ns. Contains ns k) (sym e) (subst (λ i. Contains (old.rigid.items ++ n ∷ []) i) same (last_there old.rigid.items n));
-  own_there = λ k s. (let m = in_leaf (rigid a) (leaf (public (At k))) s in cc);
+      subst (λ ns. Contains ns k) (sym e) (subst (λ i. Contains (old.rigid.items ++ n ∷ []) i) same (Contains-push old.rigid.items n));
+  own_there = λ k u. absurd (let both : Rigid n ≡ Public (At k) = v ∙ sym u in cc);
 }
 
-pub adds_own : (old new : Numbers) (t : Tree) (n : ℕ) → Public (At n) ≡ view_of t → new.own.items ≡ old.own.items ++ n ∷ [] → new.rigid.items ≡ old.rigid.items → Adds old new t
-adds_own old new (leaf (rigid a)) n v e d = cc
-adds_own old new (leaf (private a)) n v e d = cc
-adds_own old new (leaf (var a)) n v e d = cc
-adds_own old new (leaf (ax a)) n v e d = cc
-adds_own old new (leaf (entry a)) n v e d = cc
-adds_own old new (app g ts) n v e d = cc
-adds_own old new (leaf (public a)) n v e d = record {
+pub adds_own : (old new : Numbers) (t : Tree) (n : ℕ) → Public (At n) ≡ view_of t → new.own.items ≡ old.own.items ++ n ∷ [] → new.rigid.items ≡ old.rigid.items → AddsRoot old new t
+adds_own old new t n v e d = record {
   rigid_kept = λ k c. subst (λ ns. Contains ns k) (sym d) c;
   own_kept = λ k c. subst (λ ns. Contains ns k) (sym e) (Contains-append_left old.own.items (n ∷ []) k c);
-  rigid_there = λ k s. (let m = in_leaf (public a) (leaf (rigid k)) s in cc);
-  own_there = λ k s.
-      let m = in_leaf (public a) (leaf (public (At k))) s in
+  rigid_there = λ k u. absurd (let both : Public (At n) ≡ Rigid k = v ∙ sym u in cc);
+  own_there = λ k u.
+      let both : Public (At n) ≡ Public (At k) = v ∙ sym u in
       let same : n ≡ k = cc in
-      subst (λ ns. Contains ns k) (sym e) (subst (λ i. Contains (old.own.items ++ n ∷ []) i) same (last_there old.own.items n));
+      subst (λ ns. Contains ns k) (sym e) (subst (λ i. Contains (old.own.items ++ n ∷ []) i) same (Contains-push old.own.items n));
 }
 
--- any other root
-abbrev pub IsOther : TermView → Type 0
-IsOther (App f) = ⊥
-IsOther (Rigid n) = ⊥
-IsOther (Public (At n)) = ⊥
-IsOther (Public (Declared n)) = ⊤
-IsOther (Private n) = ⊤
-IsOther (Var n) = ⊤
-IsOther (Ax n) = ⊤
-IsOther (Entry n) = ⊤
-
-adds_leaf : (numbers : Numbers) (x : Leaf) → ((k : ℕ) → leaf (rigid k) ≡ leaf x → ⊥) → ((k : ℕ) → leaf (public (At k)) ≡ leaf x → ⊥) → Adds numbers numbers (leaf x)
-adds_leaf numbers x no_rigid no_own = record {
+pub adds_other : (numbers : Numbers) (t : Tree) → ((k : ℕ) → ¬ (Rigid k ≡ view_of t)) → ((k : ℕ) → ¬ (Public (At k) ≡ view_of t)) → AddsRoot numbers numbers t
+adds_other numbers t no_rigid no_own = record {
   rigid_kept = λ k c. c;
   own_kept = λ k c. c;
-  rigid_there = λ k s. absurd (no_rigid k (in_leaf x (leaf (rigid k)) s));
-  own_there = λ k s. absurd (no_own k (in_leaf x (leaf (public (At k))) s));
+  rigid_there = λ k u. absurd (no_rigid k u);
+  own_there = λ k u. absurd (no_own k u);
 }
-
-pub adds_other : (numbers : Numbers) (t : Tree) → IsOther (view_of t) → Adds numbers numbers t
-adds_other numbers (app f ts) h = absurd h
-adds_other numbers (leaf (rigid n)) h = absurd h
-adds_other numbers (leaf (public (At n))) h = absurd h
-adds_other numbers (leaf (public (Declared n))) h = adds_leaf numbers (public (Declared n)) (λ k e. cc) (λ k e. cc)
-adds_other numbers (leaf (private n)) h = adds_leaf numbers (private n) (λ k e. cc) (λ k e. cc)
-adds_other numbers (leaf (var n)) h = adds_leaf numbers (var n) (λ k e. cc) (λ k e. cc)
-adds_other numbers (leaf (ax n)) h = adds_leaf numbers (ax n) (λ k e. cc) (λ k e. cc)
-adds_other numbers (leaf (entry n)) h = adds_leaf numbers (entry n) (λ k e. cc) (λ k e. cc)
 
 -- names are chosen one by one
 abbrev AreBefore : ℕ → List NewName → Type 0

@@ -1,11 +1,12 @@
 -- Places of kept trees, by their digests.
-use Rattle.std.proofs.Common.{◌≡◌, ℕ, ◌<◌, Bool, true, false, cond, nat_eq, List, [], ◌∷◌, ◌++◌, length, slice_get, Some, None, refl, sym, ◌∙◌, subst, arith, inl, inr}
+use Rattle.std.proofs.Common.{◌≡◌, ℕ, ◌<◌, Bool, true, false, cond, nat_eq, ◌≤◌, List, [], ◌∷◌, ◌++◌, length, slice_get, Some, None, refl, sym, ◌∙◌, subst, arith, inl, inr}
+use Rattle.std.specs.List.{list_any}
 use Rattle.std.specs.Prelude.{◌⊎◌}
 use Rattle.std.specs.Map.{lookup}
 use Rattle.std.proofs.lemmas.Bool.{eq-eqb}
-use Rattle.dps_terms.specs.Tree.{Tree}
+use Rattle.dps_terms.specs.Tree.{Tree, node_count}
 use Rattle.dps_terms.specs.Digest.{digest}
-use Rattle.dps_static.specs.Places.{ArePlacesOf, IsPlaced}
+use Rattle.dps_static.specs.Places.{ArePlacesOf, IsPlaced, HasSize, AreSizesOf, IsSized}
 use Rattle.dps_static.proofs.PossibleTrees.{push_cases, length_push}
 
 lookup_kept : (places : List (ℕ × ℕ)) (p : ℕ × ℕ) (d k : ℕ) → lookup (nat_eq d) places ≡ Some k → lookup (nat_eq d) (places ++ p ∷ []) ≡ Some k
@@ -91,3 +92,31 @@ pub never_kept : (kept : List Tree) (places : List (ℕ × ℕ)) (tree : Tree) �
 never_kept kept places tree a e k there =
     let h = a.listed k tree there in
     let m : Some h.place ≡ None = sym h.there ∙ e in cc
+
+-- sizes of kept trees
+pub sizes_stay : (kept : List Tree) (sizes later : List ℕ) (n : ℕ) → AreSizesOf kept sizes → IsSized sizes n later → AreSizesOf kept later
+sizes_stay kept sizes later n a s k t e = s.keeps (node_count t) (a k t e)
+
+pub sizes_push : (kept : List Tree) (sizes later : List ℕ) (tree : Tree) → AreSizesOf kept sizes → IsSized sizes (node_count tree) later → AreSizesOf (kept ++ tree ∷ []) later
+sizes_push kept sizes later tree a s k t e =
+    elim (push_cases kept tree k t e) [
+      | inl h ↦ s.keeps (node_count t) (a k t h)
+      | inr l ↦ subst (λ u. HasSize later (node_count u)) l.is s.there
+    ]
+
+pub no_size_no_tree : (kept : List Tree) (sizes : List ℕ) (tree : Tree) → AreSizesOf kept sizes → ¬ HasSize sizes (node_count tree) → (k : ℕ) → ¬ (slice_get kept k ≡ Some tree)
+no_size_no_tree kept sizes tree a never k there = never (a k tree there)
+
+pub sized_few : (sizes : List ℕ) (n : ℕ) → n ≤ 16 → IsSized sizes n sizes
+sized_few sizes n few = record { keeps = λ m h. h; there = inl few }
+
+pub sized_new :
+    (sizes later : List ℕ) (n : ℕ) → ((m : ℕ) → list_any (nat_eq m) later ≡ cond (nat_eq n m) true (list_any (nat_eq m) sizes)) → IsSized sizes n later
+sized_new sizes later n e = record {
+  keeps = λ m h. elim h [ inl few ↦ inl few | inr there ↦ inr (e m ∙ still (nat_eq n m) (list_any (nat_eq m) sizes) there) ];
+  there = inr (e n ∙ (λ i. cond (eq-eqb n n refl i) true (list_any (nat_eq n) sizes)));
+}
+  where
+    still : (b c : Bool) → c ≡ true → cond b true c ≡ true
+    still true c h = refl
+    still false c h = h

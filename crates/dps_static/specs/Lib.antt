@@ -1,4 +1,5 @@
 pub mod Ways
+pub mod Steps
 pub mod Places
 pub mod Follows
 pub mod Passing

@@ -1,6 +1,8 @@
 -- New names of the attacker in the place of rigid names.
 use Rattle.std.specs.Prelude.{◌≡◌, ◌≤◌, ◌⊎◌, ℕ, suc, List, [], ◌∷◌, nat_eq, cond, Contains, ⊤}
 use Rattle.dps_terms.specs.declared.PublicName.TheVariants.{At}
+use Rattle.dps_terms.specs.declared.borrowed.TermView.TheVariants.{Public, Rigid}
+use Rattle.dps_terms.specs.Views.{view_of}
 use Rattle.dps_terms.specs.Tree.{public, rigid, Tree, leaf, StandsIn}
 use Rattle.dps_static.specs.Generic.{filled}
 use Rattle.dps_static.specs.declared.naming.NewName.{NewName}
@@ -48,3 +50,10 @@ pub record Adds (old new : Numbers) (t : Tree) : Type 0 where
   pub own_kept : (k : ℕ) → Contains old.own.items k → Contains new.own.items k
   pub rigid_there : (k : ℕ) → StandsIn (rigid k) t → Contains new.rigid.items k
   pub own_there : (k : ℕ) → StandsIn (public (At k)) t → Contains new.own.items k
+
+-- the number of the name that is the tree was added
+pub record AddsRoot (old new : Numbers) (t : Tree) : Type 0 where
+  pub rigid_kept : (k : ℕ) → Contains old.rigid.items k → Contains new.rigid.items k
+  pub own_kept : (k : ℕ) → Contains old.own.items k → Contains new.own.items k
+  pub rigid_there : (k : ℕ) → Rigid k ≡ view_of t → Contains new.rigid.items k
+  pub own_there : (k : ℕ) → Public (At k) ≡ view_of t → Contains new.own.items k

@@ -54,7 +54,8 @@ fn recomposed(
 {
     match composed(alloc, kept, kept.get(index))? {
         Some(other) => {
-            if builds(counterparts, other.whole(), counterparts[index].whole()) {
+            let counterpart = counterparts[index].whole();
+            if builds(alloc, counterparts, other.whole(), counterpart)? {
                 return Ok(None);
             }
             let one = entry_at(alloc, index)?;

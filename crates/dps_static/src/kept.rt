@@ -1,13 +1,18 @@
 //! Lists of kept trees, in which the place of a tree is found without a walk.
-ghost use Rattle.std.specs.Prelude.{◌≡◌, ◌+◌, ◌<◌, ◌^◌, ◌++◌, ◌∷◌, [], ℕ, IfOk, IfSome, OnOk, OnErr, MatchOption, Some, length, slice_get};
+ghost use Rattle.std.specs.Prelude.{◌≡◌, ◌+◌, ◌<◌, ◌^◌, ◌++◌, ◌∷◌, [], ℕ, IfOk, IfSome, OnOk, OnErr, IsTrue, MatchOption, Some, ◌↔◌, length, slice_get};
+ghost use Rattle.dps_terms.specs.Tree.{node_count};
 ghost use Rattle.dps_terms.specs.Seen.{seen};
 ghost use Rattle.dps_static.specs.Ways.{IsFirst, IsNotKept};
-ghost use Rattle.dps_static.specs.Places.{IsPlaced};
+ghost use Rattle.dps_static.specs.Places.{IsPlaced, IsSized, HasSize};
 
 use dps_terms::{NoMemory, Term, TermList, TermRef};
-use indexmap::IndexMap;
+use indexmap::{IndexMap, IndexSet};
 use std::alloc::{AllocError, Global};
 use std::marker::Model;
+
+/// Trees of more nodes than these are looked for only where a kept tree has as many, so that no digest is taken of each
+/// part of a deep tree.
+const SMALL: usize = 16;
 
 /// Kept trees, in order and in one buffer, with a place for the digest of each of them: no kept tree with this digest
 /// stands before it.
@@ -15,6 +20,8 @@ use std::marker::Model;
 pub(crate) struct Kept {
     trees: TermList,
     places: IndexMap<u64, usize>,
+    // how many nodes the trees have that are not small
+    sizes: IndexSet<usize>,
 }
 
 impl Model for Kept {
@@ -22,7 +29,7 @@ impl Model for Kept {
     ghost use Rattle.std.specs.Coded.{coded_list};
     ghost use Rattle.dps_terms.specs.Tree.{Tree};
     ghost use Rattle.dps_terms.specs.Stored.{tree_code};
-    ghost use Rattle.dps_static.specs.Places.{ArePlacesOf};
+    ghost use Rattle.dps_static.specs.Places.{ArePlacesOf, AreSizesOf};
 
     ghost Value = { List Tree };
 
@@ -30,7 +37,7 @@ impl Model for Kept {
 
     ghost view = { λ a. a.trees };
 
-    ghost invariant = { λ a. ArePlacesOf a.trees a.places.entries };
+    ghost invariant = { λ a. ArePlacesOf a.trees a.places.entries × AreSizesOf a.trees a.sizes.keys };
 }
 
 impl Kept {
@@ -41,6 +48,7 @@ impl Kept {
         Kept {
             trees: TermList::empty(alloc),
             places: IndexMap::new(alloc),
+            sizes: IndexSet::new(alloc),
         }
     }
 
@@ -49,6 +57,7 @@ impl Kept {
         ensures { OnOk result (self.new ≡ self.old ++ seen tree.entry ∷ []) }
     {
         put_place(&mut self.places, tree.digest(), self.trees.len())?;
+        put_size(&mut self.sizes, tree)?;
         self.trees.push(tree)?;
         Ok(())
     }
@@ -73,6 +82,9 @@ impl Kept {
         ensures first { MatchOption result (IsNotKept self.now (seen tree.entry)) (IsFirst self.now (seen tree.entry)) }
         ensures small { IfSome result (λ place. place + 1 < 2 ^ 64) }
     {
+        if !has_size(&self.sizes, tree) {
+            return None;
+        }
         match self.places.get(&tree.digest()) {
             Some(start) => place_from(&self.trees, *start, tree),
             None => None,
@@ -92,6 +104,24 @@ fn put_place(places: &mut IndexMap<u64, usize>, digest: u64, place: usize) -> Re
             Ok(())
         }
     }
+}
+
+/// Puts the number of nodes there where the tree is not small.
+fn put_size(sizes: &mut IndexSet<usize>, tree: TermRef<'_>) -> Result<(), NoMemory>
+    ensures ok { OnOk result (IsSized sizes.old.keys (node_count (seen tree.entry)) sizes.new.keys) }
+    ensures err { OnErr result (sizes.new.keys ≡ sizes.old.keys) }
+{
+    if tree.node_count() > SMALL {
+        sizes.insert(tree.node_count())?;
+    }
+    Ok(())
+}
+
+/// Whether the tree is small, or its number of nodes is there.
+fn has_size(sizes: &IndexSet<usize>, tree: TermRef<'_>) -> bool
+    ensures { IsTrue result ↔ HasSize sizes.now.keys (node_count (seen tree.entry)) }
+{
+    tree.node_count() <= SMALL || sizes.contains(&tree.node_count())
 }
 
 /// The first place of the tree from a place on, before which it does not stand.

@@ -2,7 +2,7 @@
 ghost use Rattle.std.specs.Prelude.{◌≡◌, ◌≤◌, ◌<◌, ◌↔◌, IfOk, OnOk, IsTrue, Contains};
 ghost use Rattle.dps_terms.specs.Replace.{put_entries, rigid_names_to};
 ghost use Rattle.dps_terms.specs.Seen.{seen};
-ghost use Rattle.dps_static.specs.Naming.{Adds, AreNamed, number_of, newly, renamed, AreNew};
+ghost use Rattle.dps_static.specs.Naming.{Adds, AddsRoot, AreNamed, number_of, newly, renamed, AreNew};
 
 use crate::expand::expanded;
 use dps_terms::{NoMemory, PublicName, Replacement, Term, TermLeaf, TermRef, TermStack, TermView};
@@ -26,23 +26,22 @@ pub(crate) struct Numbers {
 fn add_numbers(tree: TermRef<'_>, numbers: &mut Numbers) -> Result<(), NoMemory>
     ensures { OnOk result (Adds numbers.old numbers.new (seen tree.entry)) }
 {
-    match tree.view() {
-        TermView::App(_) => {
-            for index in 0..tree.arity() {
-                add_numbers(tree.argument(index), numbers)?;
-            }
-            Ok(())
-        }
-        TermView::Rigid(number) => {
-            numbers.rigid.push(number)?;
-            Ok(())
-        }
-        TermView::Public(PublicName::At(number)) => {
-            numbers.own.push(number)?;
-            Ok(())
-        }
-        _ => Ok(()),
+    for node in 0..tree.node_count() {
+        add_root(tree.subterm(node), numbers)?;
     }
+    Ok(())
+}
+
+/// Adds the number of the name that the tree is, if it is one.
+fn add_root(tree: TermRef<'_>, numbers: &mut Numbers) -> Result<(), NoMemory>
+    ensures { OnOk result (AddsRoot numbers.old numbers.new (seen tree.entry)) }
+{
+    match tree.view() {
+        TermView::Rigid(number) => numbers.rigid.push(number)?,
+        TermView::Public(PublicName::At(number)) => numbers.own.push(number)?,
+        _ => {}
+    }
+    Ok(())
 }
 
 /// Whether the number is among them.

@@ -28,7 +28,8 @@ fn use_test(
     let left = expanded(alloc, counterparts, one.left.whole())?;
     match evaluate(alloc, theory, &left)? {
         Some(value) => {
-            if builds(counterparts, one.right.whole(), value.whole()) {
+            let same = builds(alloc, counterparts, one.right.whole(), value.whole())?;
+            if same {
                 return Ok(None);
             }
             let right = expanded(alloc, counterparts, one.right.whole())?;

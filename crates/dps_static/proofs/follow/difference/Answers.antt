@@ -1,4 +1,4 @@
-use Rattle.std.proofs.Common.{◌≡◌, length, ap, subst, arith}
+use Rattle.std.proofs.Common.{◌≡◌, length, subst, arith}
 use Rattle.dps_static.proofs.Following.{PassBefore, follows}
 use Rattle.dps_static.proofs.follow.difference.Goals as goal
 

@@ -1,4 +1,4 @@
-use Rattle.std.proofs.Common.{◌≡◌, ◌<◌, length, slice_get, Some, arith, sym, ap, ◌∙◌, true≢false, below_more}
+use Rattle.std.proofs.Common.{◌≡◌, slice_get, Some, arith, sym, ap, ◌∙◌, true≢false, below_more}
 use Rattle.std.proofs.lemmas.Option.{slice_get_within}
 use Rattle.dps_terms.specs.Seen.{seen}
 use Rattle.dps_static.proofs.kept.place_from.Goals as goal

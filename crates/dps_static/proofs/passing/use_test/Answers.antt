@@ -14,7 +14,7 @@ returns-in-Some c =
       right_is = rw (c.deref-in-Some.ensures.value, c.whole-in-Some-7.ensures) at c.in_ok-second-in-Some.ensures;
       value = c.in-Some.value;
       evaluates = rw (c.in_ok-left.ensures, c.whole.ensures) at given;
-      differs = λ e. true≢false (sym (c.builds.ensures.1 (ap (put_entries c.args.counterparts.now) c.whole-in-Some.ensures ∙ (sym e ∙ sym c.whole-in-Some-2.ensures))) ∙ c.if-builds.false);
+      differs = λ e. true≢false (sym (c.in_ok-same-in-Some.ensures.1 (ap (put_entries c.args.counterparts.now) c.whole-in-Some.ensures ∙ (sym e ∙ sym c.whole-in-Some-2.ensures))) ∙ c.if-same.false);
     }
 
 pub returns : goal.returns
