@@ -8,11 +8,16 @@ mod bindings;
 mod branch;
 mod entering;
 mod finishing;
+mod meeting;
 mod numbers;
+mod piece;
+mod pieces;
 mod scene;
 mod search;
 mod step;
 mod task;
+#[cfg(test)]
+mod tests;
 mod unified;
 
 pub use scene::{Ask, Mgs, Scene, Steps, Stop};
