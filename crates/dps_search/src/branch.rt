@@ -1,11 +1,9 @@
 //! A branch of the search, and the steps to the next ones.
-ghost use Rattle.std.specs.Prelude.{◌≡◌, ◌∷◌, ◌↔◌, ◌+◌, ◌^◌, ◌<◌, length, map, IfOk, OnOk, IsTrue};
-ghost use Rattle.std.specs.List.{range_with_len};
-ghost use Rattle.dps_terms.specs.Tree.{leaf, var};
+ghost use Rattle.std.specs.Prelude.{◌≡◌, ◌↔◌, ◌+◌, ◌^◌, ◌<◌, length, IfOk, OnOk, IsTrue};
 ghost use Rattle.dps_terms.specs.Bindings.{image};
 ghost use Rattle.dps_terms.specs.Views.{arguments};
 ghost use Rattle.dps_terms.specs.Seen.{seen};
-ghost use Rattle.dps_solver.specs.Search.{with_bound, with_one_bound, lowered, composed, root_over};
+ghost use Rattle.dps_solver.specs.Search.{with_bound, with_one_bound, lowered, composed};
 ghost use Rattle.dps_solver.specs.Levels.{IsVariableUpTo};
 ghost use Rattle.dps_search.specs.Code.{branch_of};
 ghost use Rattle.dps_search.specs.Pieces.{piece_tree};
