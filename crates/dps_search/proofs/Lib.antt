@@ -12,4 +12,4 @@ pub mod Turning
 pub mod Turns
 pub mod Agendas
 pub mod Advancing
-pub mod Met
+pub mod Comparing

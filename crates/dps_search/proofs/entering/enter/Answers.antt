@@ -4,7 +4,7 @@ use Rattle.dps_solver.specs.declared.scene.Target.{Target}
 use Rattle.dps_search.specs.Code.{branch_of, scene_of}
 use Rattle.dps_search.specs.Tasks.{IsEntered}
 use Rattle.dps_search.specs.Meetings.{IsEnteredBy}
-use Rattle.dps_search.proofs.Met.{same_leads, never_entered, entered_by}
+use Rattle.dps_search.proofs.Comparing.{same_leads, never_entered, entered_by}
 use Rattle.dps_search.proofs.entering.enter.Goals as goal
 
 pub returns-in-Never : goal.returns-in-Never

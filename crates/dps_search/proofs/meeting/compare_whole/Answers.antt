@@ -1,6 +1,6 @@
 use Rattle.std.proofs.Common.{◌≡◌, ◌∙◌, true, false, sym}
 use Rattle.dps_terms.specs.Seen.{seen}
-use Rattle.dps_search.proofs.Met.{closed_apart}
+use Rattle.dps_search.proofs.Comparing.{closed_apart}
 use Rattle.dps_search.proofs.meeting.compare_whole.Goals as goal
 
 pub returns-then-equals : goal.returns-then-equals

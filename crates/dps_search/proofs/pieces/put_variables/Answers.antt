@@ -12,7 +12,7 @@ loop-left-preserved c =
     record {
       within = omega (arith, c.loop-left.invariant.within);
       so_far = one_put (image c.args.later.now) c.args.first (c.loop-left.left - 1) c.args.count c.args.stack.now c.loop-left.stack c.put.new.stack
-          (rw back c.loop-left.invariant.so_far) (omega (arith, c.loop-left.invariant.within, c.loop-left-test.true)) c.in_ok-put.ensures;
+          (rw back c.loop-left.invariant.so_far) (omega (arith, c.loop-left.invariant.within, c.loop-left-test.true)) (rw c.from.ensures at c.in_ok-put.ensures);
     }
 
 pub returns : goal.returns
