@@ -16,8 +16,6 @@ mod scene;
 mod search;
 mod step;
 mod task;
-#[cfg(test)]
-mod tests;
 mod unified;
 
 pub use scene::{Ask, Mgs, Scene, Steps, Stop};
