@@ -1,6 +1,7 @@
-"""Writes texts into the folder that is named: those for `lexing`, `reading`, `unifying`, `comparing` or `ruled`. None is
-over 1,048,576 bytes."""
+"""Writes texts into the folder that is named: those for `lexing`, `reading`, `unifying`, `comparing`, `ruled`, `exploring` or
+`solving`. None is over 1,048,576 bytes."""
 import pathlib
+import random
 import sys
 
 LIMIT = 1_048_576
@@ -107,6 +108,75 @@ UNIFYING = {"last": "last", "first": "first", "variable": "variable", "doubled":
 # names of cases: a table without a stop, and one that stops at its last look
 EXPLORING = {"none": "none", "last": "last"}
 
+# Scenes and asks, as words behind one another. A term is written with its symbol behind its arguments: `a` is a public name,
+# `n` a private one, `v` a variable, `e` an entry, `x` a handle, and `u`, `p`, `t` are symbols over one, two and three terms.
+# `M` begins a scene with a frame of this length, `V` is a variable of this level (they are numbered from 1), and what stands
+# before it is the recipe and the value for `E`, an entry of this level, a composition of the last entry for `C`, a label for
+# `B`, a tree and a pattern for `P`, both sides for `Q`, an equation, and the term of a target of this level for `T`. `F` is a
+# free variable, and `D` ends a disequation. `S` ends an ask, whose targets go by the names of variables from this one on.
+def tree(rng, depth, leaf):
+    """A random tree over six symbols."""
+    if depth == 0 or rng.random() < 0.15:
+        return leaf()
+    arity = rng.choice([1, 2, 2, 2, 3])
+    return " ".join([tree(rng, depth - 1, leaf) for _ in range(arity)] + [f"{'upt'[arity - 1]}{rng.randrange(2)}"])
+
+
+def wide(rng):
+    """Thirty entries of many roots, and a tree over some of their values."""
+    values = [tree(rng, 2, lambda: f"n{rng.randrange(40)}") for _ in range(30)]
+    entries = [f"x{i} {value} E{i // 4 + 1}" for i, value in enumerate(values)]
+    target = tree(rng, 3, lambda: rng.choice(values + ["a0", "a1"]))
+    return ["M8", *entries, f"{target} T8", "S100"]
+
+
+def deep(rng):
+    """Six names that are known, and a tree over them that is 24 symbols deep."""
+    entries = [f"x{i} n{i} E1" for i in range(6)]
+    target = "n0"
+    for i in range(24):
+        target = f"n{rng.randrange(6)} {target} p{i % 2}" if i % 3 else f"{target} u0"
+    return ["M1", *entries, f"{target} T1", "S100"]
+
+
+def sessions(rng, recorded, disequations):
+    """Entries of which some are ciphertexts over the attacker's inputs, and an input that is to be one."""
+    words = ["M6", "V0", "V1", "V2", "V3", "V4"]
+    for i in range(12):
+        level = i // 2 + 1
+        inside = lambda: rng.choice([f"v{rng.randrange(1, level + 1)}" if level < 6 else "a0", f"n{rng.randrange(6)}", "a1"])
+        words.append(f"x{i} {tree(rng, 1 + i % 2, inside)} E{level}" if i % 3 else f"x{i} n{i // 3} E{level}")
+        if recorded and i % 2:
+            words.append(f"e{rng.randrange(1, i + 1)} v{rng.randrange(1, 6)} p{i % 4} C0")
+    words += [f"v{x} {f'e{x} p1' if x % 2 else 'u1'} B0" for x in range(1, 5)]
+    for i in range(disequations):
+        words.append(f"F{20 + i} v{i % 5 + 1} v{20 + i} n9 p{i % 2} P0 D0" if i % 2 else f"v{i % 5 + 1} e{i % 12 + 1} P0 D0")
+    wanted = rng.choice(["v10 n0 p0", "v10 v11 p1", "v10 u0", "v10 v11 a1 t1"])
+    return [*words, f"v{rng.randrange(4, 6)} {wanted} Q0", "S50"]
+
+
+def branching(rng):
+    """Every entry is a ciphertext over an input, and two such are sought."""
+    words = ["M5", "V0", "V1", "V2", "V3"]
+    for i in range(8):
+        words.append(f"x{i} v{i % 3 + 1} n{i % 2} p0 E{i // 2 + 2}")
+    return [*words, "v10 n0 p0 v11 n1 p0 p1 T5", "S50"]
+
+
+def scenes(case, count=100):
+    rng = random.Random(7)
+    return " ".join(" ".join(case(rng)) for _ in range(count)) + " "
+
+
+SOLVING = {
+    "wide": scenes(wide),
+    "deep": scenes(deep),
+    "sessions": scenes(lambda rng: sessions(rng, False, 0)),
+    "recorded": scenes(lambda rng: sessions(rng, True, 0)),
+    "disequations": scenes(lambda rng: sessions(rng, True, 8)),
+    "branching": scenes(branching),
+}
+
 folder = pathlib.Path(sys.argv[2])
-for name, text in {"lexing": LEXING, "reading": READING, "unifying": UNIFYING, "comparing": COMPARING, "ruled": RULED, "exploring": EXPLORING}[sys.argv[1]].items():
+for name, text in {"lexing": LEXING, "reading": READING, "unifying": UNIFYING, "comparing": COMPARING, "ruled": RULED, "exploring": EXPLORING, "solving": SOLVING}[sys.argv[1]].items():
     (folder / f"{name}.txt").write_text(text)

@@ -1,13 +1,15 @@
 -- The least number above others.
-use Rattle.std.proofs.Common.{◌≡◌, ℕ, zero, suc, ◌+◌, ◌<◌, ◌≤◌, max, Bool, true, false, cond, List, [], ◌∷◌, ◌++◌, length, map, get_or, drop, Option, Some, None, Contains, refl, sym, ◌∙◌, ap, arith, add-one, drop-cons, inl, inr, append_assoc}
-use Rattle.std.specs.Prelude.{◌==◌, not, filter}
+use Rattle.std.proofs.Common.{◌≡◌, ℕ, zero, suc, ◌+◌, ◌<◌, ◌≤◌, max, Bool, true, false, cond, List, [], ◌∷◌, ◌++◌, length, map, get_or, take, drop, Option, Some, None, Contains, refl, sym, ◌∙◌, ap, arith, add-one, drop-cons, inl, inr, append_assoc}
 use Rattle.std.specs.List.{flat_map, filter_map, cons_option}
-use Rattle.std.proofs.lemmas.Bool.{eqb-true}
 use Rattle.dps_terms.specs.Tree.{Tree}
-use Rattle.dps_terms.specs.Variables.{occurrences, each_once, variables}
+use Rattle.dps_terms.specs.declared.borrowed.TermView.TheVariants.{Var}
+use Rattle.dps_terms.specs.Views.{view_of, arguments}
+use Rattle.dps_terms.specs.Walk.{subterms_from}
+use Rattle.dps_terms.specs.Variables.{occurrences}
 use Rattle.dps_know.specs.declared.know.Entry.{Entry}
 use Rattle.dps_solver.specs.Search.{least_above}
-use Rattle.dps_search.specs.Numbers.{composition_numbers}
+use Rattle.dps_search.specs.Numbers.{root_numbers, composition_numbers}
+use Rattle.dps_search.proofs.Nodes.{from_node, from_start, root_number, no_root_number}
 
 pub above_append : (xs ys : List ℕ) → least_above (xs ++ ys) ≡ max (least_above xs) (least_above ys)
 above_append [] ys = omega arith
@@ -37,31 +39,32 @@ above_next_level xs i x m n whole within at h e =
     ap (λ (ys : List (ℕ × ℕ)). least_above (map (λ (p : ℕ × ℕ). p.0) ys)) (split (λ (p : ℕ × ℕ). p.0 ∷ []) xs i x m n whole within at) in
     omega (arith, h, e, both)
 
--- each once
-kept_le : (b : Bool) (x m n : ℕ) (xs : List ℕ) → least_above xs ≤ n → m ≡ max (x + 1) n → least_above (cond b (x ∷ xs) xs) ≤ m
-kept_le true x m n xs h e = omega (arith, h, e)
-kept_le false x m n xs h e = omega (arith, h, e)
+-- node by node
+pub above_node : (t s : Tree) (node base m n : ℕ) → subterms_from t node ≡ s ∷ drop (length (arguments s)) (subterms_from t (node + 1))
+    → arguments s ≡ take (length (arguments s)) (subterms_from t (node + 1)) → m ≡ max base (least_above (flat_map occurrences (subterms_from t (node + 1))))
+    → n ≡ max m (least_above (root_numbers s)) → n ≡ max base (least_above (flat_map occurrences (subterms_from t node)))
+above_node t s node base m n at below h e =
+    let here : least_above (flat_map occurrences (subterms_from t node)) ≡ max (least_above (root_numbers s)) (least_above (flat_map occurrences (subterms_from t (node + 1)))) =
+    ap least_above (from_node t s node at below) ∙ above_append (root_numbers s) (flat_map occurrences (subterms_from t (node + 1))) in
+    omega (arith, h, e, here)
 
-filter_le : (p : ℕ → Bool) (xs : List ℕ) → least_above (filter p xs) ≤ least_above xs
-filter_le p [] = omega arith
-filter_le p (x ∷ xs) = kept_le (p x) x (max (x + 1) (least_above xs)) (least_above xs) (filter p xs) (filter_le p xs) refl
+pub above_end : (t : Tree) (node base : ℕ) → subterms_from t node ≡ [] → base ≡ max base (least_above (flat_map occurrences (subterms_from t node)))
+above_end t node base e =
+    let none : least_above (flat_map occurrences (subterms_from t node)) ≡ 0 = ap (λ ts. least_above (flat_map occurrences ts)) e in
+    omega (arith, none)
 
-kept_ge : (b : Bool) (n x m : ℕ) (xs : List ℕ) → (b ≡ true → x ≡ n) → m ≤ max (n + 1) (least_above xs)
-    → max (x + 1) m ≤ max (n + 1) (least_above (cond (not b) (x ∷ xs) xs))
-kept_ge true n x m xs e h = let d : x ≡ n = e refl in omega (arith, h, d)
-kept_ge false n x m xs e h = omega (arith, h)
+pub above_whole : (t : Tree) (base n : ℕ) → n ≡ max base (least_above (flat_map occurrences (subterms_from t 0))) → n ≡ max base (least_above (occurrences t))
+above_whole t base n h = h ∙ ap (λ ns. max base (least_above ns)) (from_start t)
 
-filter_ge : (n : ℕ) (xs : List ℕ) → least_above xs ≤ max (n + 1) (least_above (filter (λ m. not (m == n)) xs))
-filter_ge n [] = omega arith
-filter_ge n (x ∷ xs) = kept_ge (x == n) n x (least_above xs) (filter (λ m. not (m == n)) xs) (eqb-true x n) (filter_ge n xs)
+pub above_variable : (s : Tree) (n base m : ℕ) → view_of s ≡ Var n → m ≡ max base (n + 1) → m ≡ max base (least_above (root_numbers s))
+above_variable s n base m e h =
+    let own : least_above (root_numbers s) ≡ max (n + 1) 0 = ap least_above (root_number s n e) in
+    omega (arith, h, own)
 
-each_above : (ns : List ℕ) → least_above (each_once ns) ≡ least_above ns
-each_above [] = refl
-each_above (n ∷ ns) =
-    omega (arith, each_above ns, filter_le (λ m. not (m == n)) (each_once ns), filter_ge n (each_once ns))
-
-pub above_once : (t : Tree) → least_above (variables t) ≡ least_above (occurrences t)
-above_once t = each_above (occurrences t)
+pub above_other : (s : Tree) (base : ℕ) → ((n : ℕ) → view_of s ≡ Var n → ⊥) → base ≡ max base (least_above (root_numbers s))
+above_other s base h =
+    let own : least_above (root_numbers s) ≡ 0 = ap least_above (no_root_number s h) in
+    omega (arith, own)
 
 -- parts of a scene
 pub flat_compositions : (es : List Entry) → flat_map composition_numbers es ≡ flat_map occurrences (filter_map (λ (e : Entry). e.composition) es)

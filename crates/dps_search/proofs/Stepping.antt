@@ -64,8 +64,8 @@ another_is_sought (leaf (entry n)) p b h = refl
 another_is_sought (leaf (rigid n)) p b h = refl
 another_is_sought (app f ts) p b h = refl
 
-pub variable_is_tree : (t : Tree) (y : ℕ) (p : ℕ × ℕ) (b : Branch) → Var y ≡ view_of t → with_one_tree p.0 t b ≡ with_one_bound t p b
-variable_is_tree (leaf (var x)) y p b e = refl
+pub variable_is_tree : (t : Tree) (y : ℕ) (p : ℕ × ℕ) (b : Branch) → Var y ≡ view_of t → with_one_tree p.0 (leaf (var y)) b ≡ with_one_bound t p b
+variable_is_tree (leaf (var x)) y p b e = let d : y ≡ x = cc in λ i. with_one_tree p.0 (leaf (var (d i))) b
 variable_is_tree (leaf (public n)) y p b e = cc
 variable_is_tree (leaf (private n)) y p b e = cc
 variable_is_tree (leaf (ax n)) y p b e = cc

@@ -10,6 +10,8 @@ use Rattle.dps_search.specs.declared.scene.Scene.{Scene as CodeScene}
 use Rattle.dps_search.specs.declared.scene.Ask.{Ask as CodeAsk}
 use Rattle.dps_search.specs.declared.scene.Mgs.{Mgs}
 use Rattle.dps_search.specs.declared.branch.Branch.{Branch as CodeBranch}
+use Rattle.dps_search.specs.Putting.{in_turn}
+use Rattle.dps_search.specs.Pieces.{pairs_of}
 
 abbrev pub system_of : CodeScene → System
 system_of s =
@@ -35,7 +37,7 @@ abbrev pub branch_of : CodeBranch → Branch
 branch_of b =
     record {
       theta = image b.theta;
-      trees = image b.trees;
+      trees = in_turn (pairs_of b.trees.items);
       targets = b.targets.items;
       levels = b.order.levels.items;
       next = b.next;

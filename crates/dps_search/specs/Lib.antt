@@ -1,7 +1,9 @@
 pub mod Putting
+pub mod Pieces
 pub mod Code
 pub mod Going
 pub mod Numbers
+pub mod Meetings
 pub mod Ways
 pub mod Finishing
 pub mod Tasks

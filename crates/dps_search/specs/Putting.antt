@@ -1,6 +1,6 @@
 -- Substitutions put one after the other.
-use Rattle.std.specs.Prelude.{◌≡◌, ◌⊎◌, ℕ, List, Some, None}
-use Rattle.dps_terms.specs.Tree.{Tree}
+use Rattle.std.specs.Prelude.{◌≡◌, ◌⊎◌, ℕ, nat_eq, if◌then◌else◌, List, [], ◌∷◌, Some, None}
+use Rattle.dps_terms.specs.Tree.{var, Tree, leaf}
 use Rattle.dps_terms.specs.Replace.{substitute}
 use Rattle.dps_terms.specs.Bindings.{bound, image}
 use Rattle.dps_unify.specs.Unifier.{IsMgu}
@@ -9,6 +9,18 @@ use Rattle.dps_solver.specs.Search.{AreNewlyBound}
 -- the pair's term, with z put in
 abbrev pub under : (ℕ → Tree) → ℕ × Tree → ℕ × Tree
 under z p = (p.0, substitute z p.1)
+
+-- what the tree becomes when the pairs are put one after the other, each in what stands by then
+abbrev pub after_all : List (ℕ × Tree) → Tree → Tree
+after_all [] t = t
+after_all (p ∷ ps) t = after_all ps (substitute (image (p ∷ [])) t)
+
+abbrev pub in_turn : List (ℕ × Tree) → ℕ → Tree
+in_turn ps x = after_all ps (leaf (var x))
+
+-- t for x, and z for the others
+abbrev pub image_with : ℕ → Tree → (ℕ → Tree) → ℕ → Tree
+image_with x t z y = if nat_eq y x then t else z y
 
 -- What is bound stays. Besides, the variable alone is bound, to what u binds it to, where it was not bound and u binds it.
 pub record IsOnceBound (u : List (ℕ × Tree)) (x : ℕ) (old new : List (ℕ × Tree)) : Type 0 where

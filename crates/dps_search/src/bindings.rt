@@ -5,9 +5,11 @@ ghost use Rattle.dps_terms.specs.Tree.{Tree};
 ghost use Rattle.dps_terms.specs.Bindings.{bound, image, IsDistinct};
 ghost use Rattle.dps_terms.specs.Replace.{substitute};
 ghost use Rattle.dps_solver.specs.Search.{then_put};
-ghost use Rattle.dps_search.specs.Putting.{under, IsOnceBound};
+ghost use Rattle.dps_terms.specs.Seen.{seen};
+ghost use Rattle.dps_terms.specs.Views.{view_of};
+ghost use Rattle.dps_search.specs.Putting.{under, IsOnceBound, image_with};
 
-use dps_terms::{NoMemory, Replacement, Subst, Term, TermLeaf, TermStack};
+use dps_terms::{NoMemory, Replacement, Subst, Term, TermLeaf, TermRef, TermStack, TermView};
 use indexmap::IndexMap;
 use std::alloc::{AllocError, Global};
 use std::marker::Model;
@@ -52,6 +54,20 @@ impl Bindings {
         self.terms.get(&variable)
     }
 
+    /// The term where it is no variable that has one, and else what is put for it. So the same stands at its root as at the
+    /// root of the term with what is put for variables.
+    pub(crate) fn at_root<'a>(&'a self, term: TermRef<'a>) -> TermRef<'a>
+        ensures { view_of (seen result) ≡ view_of (substitute (image self.now) (seen term.entry)) }
+    {
+        let TermView::Var(variable) = term.view() else {
+            return term;
+        };
+        match self.get(variable) {
+            Some(put) => put.whole(),
+            None => term,
+        }
+    }
+
     /// How many variables have a term.
     pub(crate) fn len(&self) -> usize
         ensures count { result ≡ length self.now }
@@ -71,11 +87,32 @@ impl Bindings {
         }
     }
 
+    /// The same pairs, in memory of their own.
+    pub(crate) fn copy(&self, alloc: Global) -> Result<Bindings, NoMemory>
+        ensures { IfOk result (λ s. s ≡ self.now) }
+    {
+        let mut copies = Bindings::empty(alloc);
+        for index in 0..self.len() {
+            let (variable, term) = self.pair(index);
+            let copy = term.copy(alloc)?;
+            copies.bind(variable, copy)?;
+        }
+        Ok(copies)
+    }
+
     /// Puts a term for a variable that has none. Where it fails, nothing has changed.
     pub(crate) fn bind(&mut self, variable: u64, term: Term) -> Result<(), NoMemory>
         requires { bound self.old variable ≡ None }
         ensures ok { OnOk result (self.new ≡ self.old ++ (variable, term) ∷ []) }
         ensures err { OnErr result (self.new ≡ self.old) }
+    {
+        self.terms.insert(variable, term)?;
+        Ok(())
+    }
+
+    /// Puts a term for the variable, in the place of the one that it may have.
+    pub(crate) fn set(&mut self, variable: u64, term: Term) -> Result<(), NoMemory>
+        ensures { OnOk result (image self.new ≡ image_with variable term (image self.old)) }
     {
         self.terms.insert(variable, term)?;
         Ok(())

@@ -1,19 +1,20 @@
 //! A branch of the search, and the steps to the next ones.
-ghost use Rattle.std.specs.Prelude.{◌≡◌, ◌∷◌, ◌↔◌, ◌+◌, ◌^◌, ◌<◌, length, map, IfOk, OnOk, IsTrue};
-ghost use Rattle.std.specs.List.{range_with_len};
-ghost use Rattle.dps_terms.specs.Tree.{leaf, var};
+ghost use Rattle.std.specs.Prelude.{◌≡◌, ◌↔◌, ◌+◌, ◌^◌, ◌<◌, length, IfOk, OnOk, IsTrue};
 ghost use Rattle.dps_terms.specs.Bindings.{image};
 ghost use Rattle.dps_terms.specs.Views.{arguments};
 ghost use Rattle.dps_terms.specs.Seen.{seen};
-ghost use Rattle.dps_solver.specs.Search.{with_bound, with_one_bound, lowered, composed, root_over};
+ghost use Rattle.dps_solver.specs.Search.{with_bound, with_one_bound, lowered, composed};
 ghost use Rattle.dps_solver.specs.Levels.{IsVariableUpTo};
 ghost use Rattle.dps_search.specs.Code.{branch_of};
+ghost use Rattle.dps_search.specs.Pieces.{piece_tree};
 ghost use Rattle.dps_search.specs.Going.{with_one_tree, IsFollowed, targets_from};
 
 use crate::bindings::{Bindings, put};
+use crate::piece::{Given, Piece};
+use crate::pieces::root_over;
 use crate::unified::level;
 use dps_solver::Target;
-use dps_terms::{NoMemory, Term, TermRef, TermView};
+use dps_terms::{NoMemory, Term, TermLeaf, TermRef, TermView};
 use dps_unify::VarOrder;
 use std::alloc::{AllocError, Global};
 
@@ -22,8 +23,8 @@ use std::alloc::{AllocError, Global};
 pub(crate) struct Branch {
     /// What is put for variables in values.
     pub(crate) theta: Bindings,
-    /// The trees that the variables and the targets have so far.
-    pub(crate) trees: Bindings,
+    /// The trees that the variables and the targets got, in turn. A tree may hold variables that got theirs later.
+    pub(crate) trees: Vec<Given>,
     /// The targets that are left.
     pub(crate) targets: Vec<Target>,
     /// The variables with their levels.
@@ -32,17 +33,11 @@ pub(crate) struct Branch {
     pub(crate) next: u64,
 }
 
-/// The tree is put for the variable in the trees.
-pub(crate) fn give_tree(
-    alloc: Global,
-    branch: &mut Branch,
-    name: u64,
-    tree: Term,
-) -> Result<(), NoMemory>
-    ensures { OnOk result (branch_of branch.new ≡ with_one_tree name tree (branch_of branch.old)) }
+/// The piece is put for the variable in the trees.
+pub(crate) fn give(branch: &mut Branch, variable: u64, piece: Piece) -> Result<(), NoMemory>
+    ensures { OnOk result (branch_of branch.new ≡ with_one_tree variable (piece_tree piece) (branch_of branch.old)) }
 {
-    let trees = put(alloc, &branch.trees, name, tree)?;
-    branch.trees = trees;
+    branch.trees.push(Given { variable, piece })?;
     Ok(())
 }
 
@@ -57,8 +52,7 @@ pub(crate) fn follow(
     ensures { OnOk result (IsFollowed (branch_of branch.old) target.now branch.old.targets.items variable (branch_of branch.new)) }
 {
     if is_up_to(&branch.order, target.level, variable) {
-        let tree = Term::var(alloc, variable)?;
-        return give_tree(alloc, branch, target.name, tree);
+        return give(branch, target.name, Piece::Leaf(TermLeaf::Var(variable)));
     }
     lower(alloc, branch, target, variable)
 }
@@ -83,17 +77,10 @@ fn lower(alloc: Global, branch: &mut Branch, target: &Target, variable: u64) -> 
         variable,
         Term::var(alloc, target.name)?,
     )?;
-    let trees = put(
-        alloc,
-        &branch.trees,
-        variable,
-        Term::var(alloc, target.name)?,
-    )?;
     let levels = &mut branch.order.levels;
     levels.insert(0, (target.name, target.level))?;
     branch.theta = theta;
-    branch.trees = trees;
-    Ok(())
+    give(branch, variable, Piece::Leaf(TermLeaf::Var(target.name)))
 }
 
 /// The root of the term is composed of trees that are sought first from now on.
@@ -109,41 +96,12 @@ pub(crate) fn compose(
     let Some(next) = first.checked_add(u64::from(term.arity())) else {
         return Err(AllocError);
     };
-    let root = root_over(alloc, term, first)?;
-    let trees = put(alloc, &branch.trees, target.name, root)?;
+    let piece = root_over(term, first);
     let mut targets = argument_targets(alloc, target.level, term, first)?;
     targets.append(&mut branch.targets)?;
-    branch.trees = trees;
     branch.targets = targets;
     branch.next = next;
-    Ok(())
-}
-
-/// The root of the term over new variables, from the first one on.
-fn root_over(alloc: Global, term: TermRef<'_>, first: u64) -> Result<Term, NoMemory>
-    requires { first + length (arguments (seen term)) < 2 ^ 64 }
-    ensures { IfOk result (λ t. t ≡ root_over (seen term.entry) (range_with_len first (length (arguments (seen term.entry))))) }
-{
-    match term.view() {
-        TermView::App(sym) => {
-            let variables = new_variables(alloc, first, term.arity())?;
-            Term::app(alloc, sym, variables)
-        }
-        _ => term.copy(alloc),
-    }
-}
-
-/// So many variables, from the first one on.
-fn new_variables(alloc: Global, first: u64, count: u32) -> Result<Vec<Term>, NoMemory>
-    requires { first + count < 2 ^ 64 }
-    ensures { IfOk result (λ v. v.items ≡ map (λ n. leaf (var n)) (range_with_len first count)) }
-{
-    let mut variables = Vec::with_capacity(alloc, count as usize)?;
-    for index in 0..count {
-        let variable = Term::var(alloc, first + u64::from(index))?;
-        variables.push(variable)?;
-    }
-    Ok(variables)
+    give(branch, target.name, piece)
 }
 
 /// The targets of the arguments, which go by the names of new variables, from the first one on.
@@ -191,8 +149,8 @@ fn add_one_bound(
     ensures { OnOk result (branch_of branch.new ≡ with_one_bound (image branch.old.theta variable) (variable, level) (branch_of branch.old)) }
 {
     let term = bound_term(alloc, &branch.theta, variable)?;
-    if let TermView::Var(_) = term.whole().view() {
-        return give_tree(alloc, branch, variable, term);
+    if let TermView::Var(other) = term.whole().view() {
+        return give(branch, variable, Piece::Leaf(TermLeaf::Var(other)));
     }
     let targets = &mut branch.targets;
     targets.push(Target {

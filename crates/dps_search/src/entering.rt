@@ -1,7 +1,6 @@
 //! The next branch where an entry is the tree of the first target.
-ghost use Rattle.std.specs.Prelude.{◌≡◌, ◌<◌, ◌∷◌, List, length, drop, unwrap_or, IfOk};
-ghost use Rattle.std.specs.Option.{option_copied};
-ghost use Rattle.dps_terms.specs.Tree.{entry as entry_leaf, leaf, Tree};
+ghost use Rattle.std.specs.Prelude.{◌≡◌, ◌<◌, ◌∷◌, List, length, drop, IfOk};
+ghost use Rattle.dps_terms.specs.Tree.{entry as entry_leaf, leaf};
 ghost use Rattle.dps_terms.specs.Bindings.{image};
 ghost use Rattle.dps_terms.specs.Replace.{substitute, numbered};
 ghost use Rattle.dps_solver.specs.declared.scene.Target.{Target};
@@ -9,13 +8,17 @@ ghost use Rattle.dps_solver.specs.Search.{entry_equation, with_bound};
 ghost use Rattle.dps_search.specs.Code.{scene_of, branch_of};
 ghost use Rattle.dps_search.specs.Going.{entered};
 ghost use Rattle.dps_search.specs.Tasks.{IsEntered};
+ghost use Rattle.dps_search.specs.Meetings.{IsEnteredBy};
 
-use crate::bindings::{Bindings, put};
+use crate::bindings::Bindings;
 use crate::branch::{Branch, add_bound};
+use crate::meeting::{Meeting, compare_entry, value_at};
+use crate::piece::{Given, Piece};
+use crate::pieces::with_given;
 use crate::scene::Scene;
 use crate::unified::{Unified, unify};
 use dps_solver::Target;
-use dps_terms::{NoMemory, Term};
+use dps_terms::{NoMemory, Term, TermLeaf};
 use dps_unify::VarOrder;
 use std::alloc::Global;
 
@@ -31,6 +34,39 @@ pub(crate) fn enter(
     ensures { IfOk result (λ o. (z : Target) (rest : List Target) → branch.now.targets.items ≡ z ∷ rest → IsEntered (scene_of scene.now) (branch_of branch.now) z rest entry o) }
 {
     let target = &branch.targets[0];
+    match compare_entry(scene, branch, target, entry) {
+        Meeting::Never => Ok(None),
+        Meeting::Same => {
+            let next = enter_same(alloc, branch, target, entry)?;
+            Ok(Some(next))
+        }
+        Meeting::Open => enter_unified(alloc, scene, branch, target, entry),
+    }
+}
+
+/// The same where the entry's value is the target's term already.
+fn enter_same(
+    alloc: Global,
+    branch: &Branch,
+    target: &Target,
+    entry: u64,
+) -> Result<Branch, NoMemory>
+    ensures { IfOk result (λ c. branch_of c ≡ entered (branch_of branch.now) target.now.name (drop 1 branch.now.targets.items) entry (image branch.now.theta)) }
+{
+    let theta = branch.theta.copy(alloc)?;
+    enter_with(alloc, branch, target.name, entry, theta)
+}
+
+/// The same with what makes the two equal.
+fn enter_unified(
+    alloc: Global,
+    scene: &Scene,
+    branch: &Branch,
+    target: &Target,
+    entry: u64,
+) -> Result<Option<Branch>, NoMemory>
+    ensures { IfOk result (λ o. IsEnteredBy (scene_of scene.now) (branch_of branch.now) target.now (drop 1 branch.now.targets.items) entry o) }
+{
     let pairs = entry_pair(alloc, scene, branch, target, entry)?;
     match unify(alloc, &branch.order, &branch.theta, &pairs)? {
         Some(unified) => {
@@ -73,16 +109,6 @@ fn entry_value(
     }
 }
 
-/// The value with this number, counted from 1.
-fn value_at(values: &[Term], number: u64) -> Option<&Term>
-    ensures { (other : Tree) → numbered values.now number other ≡ unwrap_or (option_copied result) other }
-{
-    if number == 0 {
-        return None;
-    }
-    values.get(number as usize - 1)
-}
-
 /// The branch with the entry as the tree of the first target, which this is, and with what the unifier puts.
 fn with_entry(
     alloc: Global,
@@ -109,8 +135,15 @@ fn enter_with(
 ) -> Result<Branch, NoMemory>
     ensures { IfOk result (λ c. branch_of c ≡ entered (branch_of branch.now) name (drop 1 branch.now.targets.items) entry (image theta)) }
 {
-    let tree = Term::entry(alloc, entry)?;
-    let trees = put(alloc, &branch.trees, name, tree)?;
+    let piece = Piece::Leaf(TermLeaf::Entry(entry));
+    let trees = with_given(
+        alloc,
+        &branch.trees,
+        Given {
+            variable: name,
+            piece,
+        },
+    )?;
     let targets = copies(alloc, behind_first(&branch.targets))?;
     let levels = Vec::from_slice(alloc, &branch.order.levels)?;
     Ok(Branch {

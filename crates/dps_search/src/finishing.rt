@@ -12,6 +12,7 @@ ghost use Rattle.dps_search.specs.Finishing.{IsFinished};
 
 use crate::bindings::{Bindings, substitution};
 use crate::branch::{Branch, bound_term};
+use crate::pieces::put_in_turn;
 use crate::scene::{Ask, Mgs, Scene};
 use crate::unified::level;
 use dps_know::is_normal;
@@ -28,11 +29,12 @@ pub(crate) fn finish(
 ) -> Result<Option<Mgs>, NoMemory>
     ensures { IfOk result (λ o. IsFinished (scene_of scene.now) (ask_of ask.now) (branch_of branch.now) o) }
 {
-    let bindings = scene_bindings(alloc, &scene.levels, &branch.trees)?;
+    let trees = put_in_turn(alloc, &branch.trees)?;
+    let bindings = scene_bindings(alloc, &scene.levels, &trees)?;
     if !respects(alloc, scene, &bindings)? {
         return Ok(None);
     }
-    let answers = answers(alloc, &branch.trees, &ask.targets)?;
+    let answers = answers(alloc, &trees, &ask.targets)?;
     let theta = substitution(alloc, &branch.theta)?;
     Ok(Some(Mgs {
         bindings,

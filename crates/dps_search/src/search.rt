@@ -9,6 +9,7 @@ use crate::bindings::Bindings;
 use crate::branch::{Branch, add_bound};
 use crate::entering::copies;
 use crate::numbers::first_new;
+use crate::pieces::nothing_given;
 use crate::scene::{Ask, Mgs, Scene, Steps, Stop};
 use crate::task::{Task, Turn, take_turn};
 use crate::unified::{Unified, unify};
@@ -90,12 +91,12 @@ fn started(
     requires { order.levels.items ≡ scene.now.levels.items }
     ensures { IfOk result (λ b. branch_of b ≡ with_bound unified.bound.items (record (unbound (scene_of scene.now) (ask_of ask.now)) { theta = image unified.theta })) }
 {
-    let next = first_new(alloc, scene, ask)?;
+    let next = first_new(scene, ask)?;
     let targets = copies(alloc, &ask.targets)?;
     let Unified { theta, bound } = unified;
     let mut branch = Branch {
         theta,
-        trees: Bindings::empty(alloc),
+        trees: nothing_given(alloc),
         targets,
         order,
         next,

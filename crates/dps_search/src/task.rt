@@ -52,7 +52,7 @@ pub(crate) fn take_turn(
         let found = finish(alloc, scene, ask, &task.branch)?;
         return Ok(Turn::Ended(found));
     }
-    match step_of(alloc, scene, task)? {
+    match step_of(scene, task) {
         Some(step) => {
             if room {
                 move_on(alloc, scene, task, step)
@@ -65,13 +65,13 @@ pub(crate) fn take_turn(
 }
 
 /// The next way.
-fn step_of(alloc: Global, scene: &Scene, task: &Task) -> Result<Option<Step>, NoMemory>
+fn step_of(scene: &Scene, task: &Task) -> Option<Step>
     requires { 0 < length task.now.branch.targets.items }
-    ensures { IfOk result (λ step. IsNextOf (system_of scene.now) (branch_of task.now.branch) task.now.branch.targets.items task.now.passed step) }
+    ensures { IsNextOf (system_of scene.now) (branch_of task.now.branch) task.now.branch.targets.items task.now.passed result }
 {
     let target = &task.branch.targets[0];
-    let term = target.term.whole().replaced(alloc, &task.branch.theta)?;
-    Ok(next_step(scene, target.level, term.whole(), task.passed))
+    let term = task.branch.theta.at_root(target.term.whole());
+    next_step(scene, target.level, term, task.passed)
 }
 
 /// Goes the next way.

@@ -1,24 +1,27 @@
-use Rattle.std.proofs.Common.{ℕ, List, Option, ◌∙◌, subst}
-use Rattle.std.specs.Prelude.{MatchOption}
-use Rattle.dps_terms.specs.Bindings.{image}
-use Rattle.dps_unify.specs.Unifier.{IsNotUnifiable}
-use Rattle.dps_search.specs.declared.unified.Unified.{Unified}
+use Rattle.std.proofs.lemmas.Result.{IfOk-weaker}
+use Rattle.std.proofs.Common.{◌≡◌, List, ◌∷◌, drop}
+use Rattle.dps_solver.specs.declared.scene.Target.{Target}
 use Rattle.dps_search.specs.Code.{branch_of, scene_of}
-use Rattle.dps_search.specs.Putting.{IsUnifiedBy}
-use Rattle.dps_search.proofs.Turns.{entered_leads, entered_not}
+use Rattle.dps_search.specs.Tasks.{IsEntered}
+use Rattle.dps_search.specs.Meetings.{IsEnteredBy}
+use Rattle.dps_search.proofs.Comparing.{same_leads, never_entered, entered_by}
 use Rattle.dps_search.proofs.entering.enter.Goals as goal
 
-pub returns-in-Some : goal.returns-in-Some
-returns-in-Some c = λ z rest e.
-    let b = branch_of c.args.branch.now in
-    let pairs = c.deref.result.now in
-    let n = subst (λ (o : Option Unified). MatchOption o (IsNotUnifiable pairs) (λ u. IsUnifiedBy b.levels pairs b.theta (image u.theta) u.bound.items)) c.in-Some.is c.in_ok-unified.ensures in
-    entered_leads (scene_of c.args.scene.now) b c.index-target.result.now z b.targets rest c.args.entry e c.index-target.ensures pairs (image c.in-Some.unified.theta)
-    c.in-Some.unified.bound.items (branch_of c.in_ok-next-in-Some.next) (c.deref.ensures.value ∙ c.in_ok-pairs.ensures) n c.in_ok-next-in-Some.ensures
+pub returns-in-Never : goal.returns-in-Never
+returns-in-Never c = λ z rest e.
+    never_entered (scene_of c.args.scene.now) (branch_of c.args.branch.now) c.index-target.result.now z c.args.branch.now.targets.items rest c.args.entry e c.index-target.ensures
+    c.in-Never.ensures
 
-pub returns : goal.returns
-returns c = λ z rest e.
+pub returns-in_ok-next-in-Same : goal.returns-in_ok-next-in-Same
+returns-in_ok-next-in-Same c = λ z rest e.
+    same_leads (scene_of c.args.scene.now) (branch_of c.args.branch.now) c.index-target.result.now z c.args.branch.now.targets.items rest c.args.entry e c.index-target.ensures
+    (branch_of c.in_ok-next-in-Same.next) c.in-Same.ensures c.in_ok-next-in-Same.ensures
+
+pub returns-in-Open : goal.returns-in-Open
+returns-in-Open c =
+    let scene = scene_of c.args.scene.now in
     let b = branch_of c.args.branch.now in
-    let pairs = c.deref.result.now in
-    let n = subst (λ (o : Option Unified). MatchOption o (IsNotUnifiable pairs) (λ u. IsUnifiedBy b.levels pairs b.theta (image u.theta) u.bound.items)) c.in-None.is c.in_ok-unified.ensures in
-    entered_not (scene_of c.args.scene.now) b c.index-target.result.now z b.targets rest c.args.entry e c.index-target.ensures pairs (c.deref.ensures.value ∙ c.in_ok-pairs.ensures) n
+    let ts = c.args.branch.now.targets.items in
+    IfOk-weaker c.enter_unified.result (λ o. IsEnteredBy scene b c.index-target.result.now (drop 1 ts) c.args.entry o)
+    (λ o. (z : Target) (rest : List Target) → ts ≡ z ∷ rest → IsEntered scene b z rest c.args.entry o)
+    (λ o h z rest e. entered_by scene b c.index-target.result.now z ts rest c.args.entry e c.index-target.ensures o h) c.enter_unified.ensures

@@ -29,4 +29,4 @@ returns-in-None c =
     let scene = scene_of c.args.scene.now in
     let some : 0 < length old.branch.targets.items = search rules in
     go_nowhere scene (ask_of c.args.ask.now) old old some c.args.room
-    (subst (λ (s : Option Step). IsNextOf scene.system (branch_of old.branch) old.branch.targets.items old.passed s) c.in-None.is c.in_ok-step.ensures)
+    c.in-None.ensures
