@@ -10,3 +10,9 @@ pub mod Numbered
 pub mod Worded
 pub mod Consisting
 pub mod Parting
+pub mod Row
+pub mod Counts
+pub mod Rules
+pub mod Splitting
+pub mod Entries
+pub mod Opening

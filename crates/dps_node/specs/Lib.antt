@@ -8,3 +8,12 @@ pub mod Pruning
 pub mod Truth
 pub mod Invariant
 pub mod Code
+pub mod Outcome
+pub mod Settling
+pub mod Knowing
+pub mod Mixing
+pub mod Showing
+pub mod Expansion
+pub mod Laws
+pub mod Claims
+pub mod Examples

@@ -1,4 +1,6 @@
-//! The laws of questions. Each function does nothing: its contract is the law.
+//! The laws of questions and of the tree. Each function does nothing: its contract is the law.
+ghost use Rattle.dps_node.specs.Laws.{ExpansionsTakeOneCount};
+ghost use Rattle.dps_node.specs.Mixing.{MeetingsAreThose};
 ghost use Rattle.dps_node.specs.Pruning.{PrunedCasesAnswerAlike, ThinnedAnswerAlike, ThinnedReplyAlike};
 ghost use Rattle.dps_node.specs.Truth.{TrueHolds, FalseHoldsNever, OpenIsNotPlain, TestTells, EvalTells, EqualTells, SuccessTells, TreeFalse, CompositionFalse, TreeTrue, EvalIsKnown};
 ghost use Rattle.dps_terms.specs.Kinds.{NoRigidName};
@@ -72,4 +74,14 @@ pub fn tree_true()
 /// What an evaluation finds is over the node's variables.
 pub fn eval_is_known()
     ensures { EvalIsKnown NoRigidName × EvalIsKnown AnyRigidName }
+{}
+
+/// Each expansion of a node takes the same number of steps.
+pub fn expansions_take_one_count()
+    ensures { ExpansionsTakeOneCount }
+{}
+
+/// Parts are joined on just the channels on which the model lets them communicate unseen.
+pub fn meetings_are_those()
+    ensures { MeetingsAreThose }
 {}

@@ -1,10 +1,12 @@
-//! Nodes of the partition tree: what they mean, how they are split, and what is asked in them.
+//! Nodes of the partition tree: what they mean, how they are split, what is asked in them, and the rules by which they are
+//! expanded.
 #![tactic(auto)]
 
 mod beginning;
 mod bindings;
 mod consistency;
 mod copying;
+mod examples;
 mod laws;
 mod node;
 mod numbering;
@@ -13,10 +15,14 @@ mod words;
 
 pub use beginning::root;
 pub use consistency::consistent;
+pub use examples::{
+    attack_is_found, budget_is_spent, entry_is_found, input_is_divided, secret_is_opened,
+};
 pub use laws::{
-    composition_false, equal_tells, eval_is_known, eval_tells, false_holds_never,
-    open_is_not_plain, pruned_cases_answer_alike, success_tells, test_tells, thinned_answer_alike,
-    thinned_reply_alike, tree_false, tree_true, true_holds,
+    composition_false, equal_tells, eval_is_known, eval_tells, expansions_take_one_count,
+    false_holds_never, meetings_are_those, open_is_not_plain, pruned_cases_answer_alike,
+    success_tells, test_tells, thinned_answer_alike, thinned_reply_alike, tree_false, tree_true,
+    true_holds,
 };
 pub use node::{Node, SymConfig};
 pub use numbering::variables;

@@ -20,18 +20,18 @@ use Rattle.dps_solver.proofs.Rows.{newly_none}
 use Rattle.dps_node.specs.Node.{SymbolicConfig, Node, root, scene_of, system_of, with_configs, at_count}
 use Rattle.dps_node.specs.Splits.{partition}
 use Rattle.dps_node.specs.Questions.{Found, equal, tree, no_ask, an_ask, decided, Answers, holds, fails, Asks, all_decided, AsksEach, none_left, one_decided}
-use Rattle.dps_partition.specs.Outcome.{changed, kids}
-use Rattle.dps_partition.specs.Settling.{IsReady, AreReady, IsSettled, unfolds}
-use Rattle.dps_partition.specs.Settling.{ends as gone}
-use Rattle.dps_partition.specs.Knowing.{in_each, value_in, compares, Examines, is_compared, by_handle, splits}
-use Rattle.dps_partition.specs.Mixing.{adds, mixes, AreMixed, unmixed}
-use Rattle.dps_partition.specs.Mixing.{none_left as added_all}
-use Rattle.dps_partition.specs.Showing.{shown, Keeps, keeps, leaves_out}
-use Rattle.dps_partition.specs.Showing.{none_left as kept_all}
-use Rattle.dps_partition.specs.Expansion.{Acts, settles, knows, Expands, changes, divides, shows, branches, Looks, attacks, is_spent, expands, at_root, at_kid}
-use Rattle.dps_partition.specs.Expansion.{mixes as mixes_next}
-use Rattle.dps_partition.specs.Examples.{a, b, signature, two_names, AttackIsFound, BudgetIsSpent}
-use Rattle.dps_partition.proofs.Rules.{expands_once}
+use Rattle.dps_node.specs.Outcome.{changed, kids}
+use Rattle.dps_node.specs.Settling.{IsReady, AreReady, IsSettled, unfolds}
+use Rattle.dps_node.specs.Settling.{ends as gone}
+use Rattle.dps_node.specs.Knowing.{in_each, value_in, compares, Examines, is_compared, by_handle, splits}
+use Rattle.dps_node.specs.Mixing.{adds, mixes, AreMixed, unmixed}
+use Rattle.dps_node.specs.Mixing.{none_left as added_all}
+use Rattle.dps_node.specs.Showing.{shown, Keeps, keeps, leaves_out}
+use Rattle.dps_node.specs.Showing.{none_left as kept_all}
+use Rattle.dps_node.specs.Expansion.{Acts, settles, knows, Expands, changes, divides, shows, branches, Looks, attacks, is_spent, expands, at_root, at_kid}
+use Rattle.dps_node.specs.Expansion.{mixes as mixes_next}
+use Rattle.dps_node.specs.Examples.{a, b, signature, two_names, AttackIsFound, BudgetIsSpent}
+use Rattle.dps_node.proofs.Rules.{expands_once}
 
 one : {X : Type 0} (P : X → Type 0) (x : X) → P x → All P (x ∷ [])
 one P x h = All-cons P x [] h (All-nil P)

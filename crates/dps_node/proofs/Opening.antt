@@ -18,10 +18,10 @@ use Rattle.dps_solver.specs.Search.{GeneralSolution, IsPlain, Branch, solution_o
 use Rattle.dps_solver.proofs.Rows.{newly_none}
 use Rattle.dps_node.specs.Node.{SymbolicConfig, scene_of, system_of}
 use Rattle.dps_node.specs.Questions.{Query, Found, tree, composition, instance, success, FindsAll, no_ask, an_ask, decided, Answers, holds, fails, AnswersWhole, fails_by_all, Asks, all_decided, AsksEach, none_left, one_decided}
-use Rattle.dps_partition.specs.Outcome.{changed, passes, ends as has_outcome, through, next, stops}
-use Rattle.dps_partition.specs.Knowing.{in_each, Examines, is_new, unknown, composing, Composes, is_composed_of, succeeding, UsesFact, always, UsesFound, fact, Computes, computes, by_rule}
-use Rattle.dps_partition.proofs.Entries.{no_equation, newly}
-use Rattle.dps_partition.specs.Examples.{senc, opens, opening, secret, one_secret, opened_secret, SecretIsOpened}
+use Rattle.dps_node.specs.Outcome.{changed, passes, ends as has_outcome, through, next, stops}
+use Rattle.dps_node.specs.Knowing.{in_each, Examines, is_new, unknown, composing, Composes, is_composed_of, succeeding, UsesFact, always, UsesFound, fact, Computes, computes, by_rule}
+use Rattle.dps_node.proofs.Entries.{no_equation, newly}
+use Rattle.dps_node.specs.Examples.{senc, opens, opening, secret, one_secret, opened_secret, SecretIsOpened}
 
 abbrev at_one : ℕ → Tree → Target
 at_one z t = record { name = z; level = 1; term = t }

@@ -5,7 +5,7 @@ use Rattle.dps_signature.specs.Signature.{Name, Signature}
 use Rattle.dps_process.specs.Models.{Model, Private, Classic, Eavesdrop, MayMeet}
 use Rattle.dps_process.specs.Process.{Process, input, output, put}
 use Rattle.dps_node.specs.Node.{SymbolicConfig, Node, with_configs}
-use Rattle.dps_partition.specs.Outcome.{Outcome, changed}
+use Rattle.dps_node.specs.Outcome.{Outcome, changed}
 
 -- whether two parts may communicate unseen on the channel: the test of `MayMeet`
 abbrev pub is_private_name : Option Name → Bool

@@ -10,13 +10,13 @@ use Rattle.dps_solver.specs.Search.{GeneralSolution}
 use Rattle.dps_node.specs.Node.{SymbolicConfig, Node, at_count, with_configs}
 use Rattle.dps_node.specs.Questions.{Question, Found, Answer, decided, undecided, Answers, Asks}
 use Rattle.dps_node.proofs.Once.{answers_once, asks_once}
-use Rattle.dps_partition.specs.Outcome.{Outcome, changed, kids}
-use Rattle.dps_partition.specs.Settling.{IsReady, AreReady, FirstUnready, Unfolds, ends, forks, chooses, AsksFor, tests, binds, sends, in_place, decided_as, Settles, unfolds, decides, divides}
+use Rattle.dps_node.specs.Outcome.{Outcome, changed, kids}
+use Rattle.dps_node.specs.Settling.{IsReady, AreReady, FirstUnready, Unfolds, ends, forks, chooses, AsksFor, tests, binds, sends, in_place, decided_as, Settles, unfolds, decides, divides}
 use Rattle.dps_process.specs.Models.{Model}
-use Rattle.dps_partition.specs.Mixing.{AddsEach, none_left, stands, adds, meetings, Mixes, mixes}
-use Rattle.dps_partition.specs.Expansion.{Acts, settles, knows, IsThrough, Expands, changes, shows}
-use Rattle.dps_partition.specs.Expansion.{mixes as mixes_next, divides as divides_at}
-use Rattle.dps_partition.proofs.Counts.{SameOutcome, outcome_at, knows_once}
+use Rattle.dps_node.specs.Mixing.{AddsEach, none_left, stands, adds, meetings, Mixes, mixes}
+use Rattle.dps_node.specs.Expansion.{Acts, settles, knows, IsThrough, Expands, changes, shows}
+use Rattle.dps_node.specs.Expansion.{mixes as mixes_next, divides as divides_at}
+use Rattle.dps_node.proofs.Counts.{SameOutcome, outcome_at, knows_once}
 
 -- the first element of which P does not hold
 pub record SameSplit {X : Type 0} (bs cs fs gs : List X) (x y : X) : Type 0 where

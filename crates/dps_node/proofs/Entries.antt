@@ -12,9 +12,9 @@ use Rattle.dps_solver.specs.Search.{AreNewlyBound, composes, goes_on, no_way, le
 use Rattle.dps_solver.proofs.Rows.{newly_none}
 use Rattle.dps_node.specs.Node.{SymbolicConfig, scene_of}
 use Rattle.dps_node.specs.Questions.{Found, tree, composition, no_ask, an_ask, decided, Answers, fails, AnswersWhole, fails_by_all, Asks, all_decided, AsksEach, none_left, one_decided}
-use Rattle.dps_partition.specs.Outcome.{passes, through, next}
-use Rattle.dps_partition.specs.Knowing.{in_each, Examines, is_new, unknown, composing, Composes, is_composed_of, by_handle, by_closing}
-use Rattle.dps_partition.specs.Examples.{a, ciphertext, told, one_message, one_entry, EntryIsFound}
+use Rattle.dps_node.specs.Outcome.{passes, through, next}
+use Rattle.dps_node.specs.Knowing.{in_each, Examines, is_new, unknown, composing, Composes, is_composed_of, by_handle, by_closing}
+use Rattle.dps_node.specs.Examples.{a, ciphertext, told, one_message, one_entry, EntryIsFound}
 
 pub no_equation : IsMgu [] [] []
 no_equation = record {

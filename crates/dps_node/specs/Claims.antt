@@ -16,10 +16,10 @@ use Rattle.dps_node.specs.Node.{SymbolicConfig, Node, scene_of, system_of, at_co
 use Rattle.dps_node.specs.Splits.{IsSplit, partition}
 use Rattle.dps_node.specs.Meaning.{IsSolutionOf, IsInstance, IsClosedInMeaning, word, TracesAreOfInstances, SplitsSolutions, SeparatesInstances}
 use Rattle.dps_node.specs.Words.{fresh_names, ground_word}
-use Rattle.dps_partition.specs.Outcome.{changed, kids, passes, InTurn}
-use Rattle.dps_partition.specs.Settling.{IsSettled}
-use Rattle.dps_partition.specs.Knowing.{Composes}
-use Rattle.dps_partition.specs.Expansion.{Acts, IsThrough, Stop, attack, Looks, stop, IsAt, StopsAt}
+use Rattle.dps_node.specs.Outcome.{changed, kids, passes, InTurn}
+use Rattle.dps_node.specs.Settling.{IsSettled}
+use Rattle.dps_node.specs.Knowing.{Composes}
+use Rattle.dps_node.specs.Expansion.{Acts, IsThrough, Stop, attack, Looks, stop, IsAt, StopsAt}
 
 -- a node of the tree at any moment of its expansion
 pub data IsReached (problem : Problem) (budget : ℕ) : List ℕ → Node → Type 0 where

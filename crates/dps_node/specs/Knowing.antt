@@ -14,7 +14,7 @@ use Rattle.dps_node.specs.Numbering.{is_among, counted_as, as_rigid, variables_i
 use Rattle.dps_node.specs.Node.{SymbolicConfig, Node, variables_of, scene_of, at_count}
 use Rattle.dps_node.specs.Splits.{IsSplit, partition}
 use Rattle.dps_node.specs.Questions.{Question, Found, value_of, tree_of, equal, tree, composition, instance, success, FindsAll, IsPlainlyFound, Answers, AnswersWhole, all_decided, divided, AsksEach}
-use Rattle.dps_partition.specs.Outcome.{Outcome, changed, kids, Pass, passes, ends, InTurn}
+use Rattle.dps_node.specs.Outcome.{Outcome, changed, kids, Pass, passes, ends, InTurn}
 
 -- a question in each configuration, for a term of each
 abbrev pub in_each : Node → (SymbolicConfig → Tree → Question) → List Tree → List (SymbolicConfig × Question)

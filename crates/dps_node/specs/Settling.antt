@@ -8,7 +8,7 @@ use Rattle.dps_solver.specs.Search.{GeneralSolution}
 use Rattle.dps_node.specs.Node.{SymbolicConfig, Node, at_count, with_configs}
 use Rattle.dps_node.specs.Splits.{IsSplit}
 use Rattle.dps_node.specs.Questions.{Question, Found, test, eval, value_of, decided, undecided, Answers, Asks}
-use Rattle.dps_partition.specs.Outcome.{Outcome, changed, kids}
+use Rattle.dps_node.specs.Outcome.{Outcome, changed, kids}
 
 -- A part is ready where it waits for its channel alone: an input, or an output of a term without destructors.
 abbrev pub IsReady : Theory → Process → Type 0

@@ -13,10 +13,10 @@ use Rattle.dps_process.specs.Steps.{inputs, outputs}
 use Rattle.dps_theory.specs.Theory.{Theory}
 use Rattle.dps_node.specs.Node.{SymbolicConfig, Node}
 use Rattle.dps_node.specs.Words.{ground_word}
-use Rattle.dps_partition.specs.Outcome.{changed, kids}
-use Rattle.dps_partition.specs.Settling.{Settles}
-use Rattle.dps_partition.specs.Knowing.{Knows}
-use Rattle.dps_partition.specs.Expansion.{attack, spent, Looks, stop, IsAt}
+use Rattle.dps_node.specs.Outcome.{changed, kids}
+use Rattle.dps_node.specs.Settling.{Settles}
+use Rattle.dps_node.specs.Knowing.{Knows}
+use Rattle.dps_node.specs.Expansion.{attack, spent, Looks, stop, IsAt}
 
 abbrev pub a : Tree
 a = leaf (public (Declared 1))

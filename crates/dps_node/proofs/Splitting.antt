@@ -17,8 +17,8 @@ use Rattle.dps_solver.proofs.Rows.{newly_one, newly_none}
 use Rattle.dps_node.specs.Node.{SymbolicConfig, Node, scene_of, system_of, at_count}
 use Rattle.dps_node.specs.Splits.{Applies, IsSplit}
 use Rattle.dps_node.specs.Questions.{Found, test, no_ask, an_ask, decided, undecided, Answers, holds, fails, open_at, Asks}
-use Rattle.dps_partition.specs.Settling.{IsReady, AreReady, FirstUnready, tests, decides, divides}
-use Rattle.dps_partition.specs.Examples.{a, b, nothing_known, in_config, tests_input, after_one_input, first_kid, second_kid, InputIsDivided}
+use Rattle.dps_node.specs.Settling.{IsReady, AreReady, FirstUnready, tests, decides, divides}
+use Rattle.dps_node.specs.Examples.{a, b, nothing_known, in_config, tests_input, after_one_input, first_kid, second_kid, InputIsDivided}
 use Rattle.dps_branch.specs.declared.Side.TheVariants.{Left, Right}
 
 -- the part that is settled

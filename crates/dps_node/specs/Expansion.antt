@@ -3,11 +3,11 @@ use Rattle.std.specs.Prelude.{◌≡◌, ℕ, ◌<◌, ◌≤◌, ◌⊎◌, tru
 use Rattle.dps_branch.specs.declared.Side.{Side}
 use Rattle.dps_process.specs.Problem.{Problem}
 use Rattle.dps_node.specs.Node.{SymbolicConfig, Node, root}
-use Rattle.dps_partition.specs.Outcome.{Outcome, changed, kids}
-use Rattle.dps_partition.specs.Settling.{IsSettled, Settles}
-use Rattle.dps_partition.specs.Knowing.{Knows}
-use Rattle.dps_partition.specs.Mixing.{AreMixed, Mixes}
-use Rattle.dps_partition.specs.Showing.{shown, Keeps}
+use Rattle.dps_node.specs.Outcome.{Outcome, changed, kids}
+use Rattle.dps_node.specs.Settling.{IsSettled, Settles}
+use Rattle.dps_node.specs.Knowing.{Knows}
+use Rattle.dps_node.specs.Mixing.{AreMixed, Mixes}
+use Rattle.dps_node.specs.Showing.{shown, Keeps}
 
 -- Rules 2 to 4: the first of them that applies has this outcome.
 pub data Acts (problem : Problem) (node : Node) : Outcome → Type 0 where

@@ -6,7 +6,7 @@ use Rattle.dps_signature.specs.Signature.{Name, Signature}
 use Rattle.dps_process.specs.Process.{Process, input, output, put}
 use Rattle.dps_process.specs.Steps.{inputs, outputs}
 use Rattle.dps_node.specs.Node.{SymbolicConfig, Node, with_configs}
-use Rattle.dps_partition.specs.Mixing.{picks, AddsEach}
+use Rattle.dps_node.specs.Mixing.{picks, AddsEach}
 
 -- the numbers of the public names, in order
 abbrev pub public_from : ℕ → List Name → List ℕ
