@@ -84,8 +84,8 @@ seen_either n p ps u a b (inl e) (inl k) = inl (ap (λ (o : Option Tree). either
     nowhere (in_rest k) f g = g k
 
 mutual
+  unfolding seen all_seen
   seen_says : (r : ℕ → Tree) (n : ℕ) (p : Tree) → IsSeen n p (r n) (seen n p (substitute r p))
-  unfolding seen
   seen_says r n (leaf x) = seen_at_leaf r n x
   seen_says r n (app f ps) = at (all_seen n ps (replace_all (variables_to r) ps)) (all_seen_say r n ps)
     where
@@ -97,7 +97,6 @@ mutual
       at o (inr h) = inr h
 
   all_seen_say : (r : ℕ → Tree) (n : ℕ) (ps : Trees) → AreSeen n ps (r n) (all_seen n ps (replace_all (variables_to r) ps))
-  unfolding all_seen
   all_seen_say r n none = inl (refl, λ h. elim h [ ])
   all_seen_say r n (more p ps) =
       seen_either n p ps (r n) (seen n p (substitute r p)) (all_seen n ps (replace_all (variables_to r) ps)) (seen_says r n p) (all_seen_say r n ps)

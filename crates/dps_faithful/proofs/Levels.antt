@@ -1,18 +1,20 @@
 -- The variables of a node: their numbers, levels and places.
 use Rattle.std.proofs.Common.{◌≡◌, ℕ, suc, ◌+◌, ◌<◌, ◌≤◌, List, [], ◌∷◌, map, length, refl, sym, ◌∙◌, ap, subst, inl, inr, arith, cond, nat_eq, Bool, true, false, Option, Some, None, AllPairs}
-use Rattle.std.specs.Prelude.{◌⊎◌, ◌≢◌, Contains, All, Any}
+use Rattle.std.specs.Prelude.{◌⊎◌, ◌≢◌, Contains, All, Any, slice_get, get_or, zero}
 use Rattle.std.specs.List.{flat_map, list_any}
-use Rattle.std.proofs.lemmas.Bool.{cases_Bool, eqb-true}
+use Rattle.std.proofs.lemmas.Bool.{cases_Bool, eqb-true, eq-eqb}
 use Rattle.std.proofs.lemmas.List.Elements.{All-nil, All-cons, All-contains, Contains-append_left, Contains-append_right, Contains-append_cases}
 use Rattle.std.proofs.lemmas.List.Kept.{AllPairs-cons, AllPairs-filter}
 use Rattle.std.proofs.lemmas.Map.Views.{Contains-from_any}
 use Rattle.dps_terms.specs.Tree.{Leaf, public, private, var, ax, entry, rigid, Tree, Trees, leaf, app, none, more, StandsIn, IsAmong, itself, below, in_first, in_rest}
 use Rattle.dps_terms.specs.Variables.{occurrences, all_occurrences}
 use Rattle.dps_unify.specs.Order.{level_of}
-use Rattle.dps_symeval.proofs.Listed.{contains_none, contains_first, contains_later, contains_cases, contains_one, from_joined, from_filtered}
+use Rattle.dps_symeval.proofs.Listed.{contains_none, contains_first, contains_later, contains_cases, contains_one, joined, from_joined, filtered, from_filtered}
 use Rattle.dps_directions.proofs.Listing.{contains_any}
+use Rattle.dps_directions.proofs.Beginning.{in_occurrences}
 use Rattle.dps_node.specs.Node.{Node, numbered_from, label_trees, variables_of}
 use Rattle.dps_node.specs.Numbering.{is_among}
+use Rattle.dps_faithful.proofs.Lists.{among_true}
 
 -- what occurs in a tree stands in it
 occurs_leaf : (x : Leaf) (n : ℕ) → Contains (occurrences (leaf x)) n → StandsIn (var n) (leaf x)
@@ -56,6 +58,10 @@ is_labelled node x l e =
     let t = from_joined occurrences (label_trees node) x among in
     contains_any (λ u. StandsIn (var x) u) (label_trees node) t.0 t.1 (occurrence_stands t.0 x t.2)
 
+-- a variable has one level
+pub same_level : (levels : List (ℕ × ℕ)) (x k l : ℕ) → level_of levels x ≡ Some k → level_of levels x ≡ Some l → k ≡ l
+same_level levels x k l e f = let d : Some k ≡ Some l = sym e ∙ f in cc
+
 -- numbers are given once
 numbered_after : (n k : ℕ) (ls : List ℕ) → n < k → All (λ (p : ℕ × ℕ). n ≢ p.0) (numbered_from k ls)
 numbered_after n k [] h = All-nil (λ (p : ℕ × ℕ). n ≢ p.0)
@@ -81,3 +87,47 @@ number_below node p h =
     let there = from_filtered (λ (p : ℕ × ℕ). is_among p.0 (flat_map occurrences (label_trees node))) (numbered_from 1 node.levels) p h in
     let up = All-contains (λ (p : ℕ × ℕ). p.0 < 1 + length node.levels) (numbered_from 1 node.levels) p (numbered_up (1 + length node.levels) 1 node.levels (omega arith)) there.0 in
     omega (arith, up)
+
+-- a number has the level at its place
+from_number : (n : ℕ) (ls : List ℕ) (x l : ℕ) → Contains (numbered_from n ls) (x, l) → (j : ℕ) × (x ≡ n + j) × (slice_get ls j ≡ Some l)
+from_number n [] x l h = absurd (contains_none (x, l) h)
+from_number n (k ∷ ls) x l h = elim (contains_cases (n, k) (numbered_from (n + 1) ls) (x, l) h) [
+  | inl e ↦ let first : x ≡ n = ap (λ (p : ℕ × ℕ). p.0) e in (0, omega (arith, first), ap (λ (p : ℕ × ℕ). Some p.1) (sym e))
+  | inr c ↦ let d = from_number (n + 1) ls x l c in (suc d.0, omega (arith, d.1), d.2)
+]
+
+to_number : (n : ℕ) (ls : List ℕ) (j l x : ℕ) → x ≡ n + j → slice_get ls j ≡ Some l → Contains (numbered_from n ls) (x, l)
+to_number n [] j l x at e = cc
+to_number n (k ∷ ls) zero l x at e =
+    let same : k ≡ l = cc in
+    let first : n ≡ x = omega (arith, at) in
+    subst (λ (p : ℕ × ℕ). Contains ((n, k) ∷ numbered_from (n + 1) ls) p) (λ i. (first i, same i)) (contains_first (n, k) (numbered_from (n + 1) ls))
+to_number n (k ∷ ls) (suc j) l x at e = contains_later (n, k) (numbered_from (n + 1) ls) (x, l) (to_number (n + 1) ls j l x (omega (arith, at)) e)
+
+-- what is listed once has the level with which it is listed
+level_when : (ps : List (ℕ × ℕ)) (x l : ℕ) → AllPairs (λ (p q : ℕ × ℕ). p.0 ≢ q.0) ps → Contains ps (x, l) → level_of ps x ≡ Some l
+level_when [] x l once h = absurd (contains_none (x, l) h)
+level_when (p ∷ ps) x l once h = elim (contains_cases p ps (x, l) h) [
+  | inl e ↦
+      ap (λ b. cond b (Some p.1) (level_of ps x)) (eq-eqb p.0 x (ap (λ (q : ℕ × ℕ). q.0) (sym e))) ∙ ap (λ (q : ℕ × ℕ). Some q.1) (sym e)
+  | inr c ↦ elim (cases_Bool (nat_eq p.0 x)) [
+    | inl d ↦ absurd (All-contains (λ (q : ℕ × ℕ). p.0 ≢ q.0) ps (x, l) (λ k d within. once zero (suc k) d (omega arith) (omega (arith, within))) c (eqb-true p.0 x d))
+    | inr d ↦ ap (λ b. cond b (Some p.1) (level_of ps x)) d ∙ level_when ps x l (λ i j d lt within. once (suc i) (suc j) d (omega (arith, lt)) (omega (arith, within))) c
+  ]
+]
+
+pub listed_level : (node : Node) (p : ℕ × ℕ) → Contains (variables_of node) p → level_of (variables_of node) p.0 ≡ Some p.1
+listed_level node p h = level_when (variables_of node) p.0 p.1 (each_once_numbered node) h
+
+pub level_out : (node : Node) (x l : ℕ) → level_of (variables_of node) x ≡ Some l → (j : ℕ) × (x ≡ 1 + j) × (slice_get node.levels j ≡ Some l)
+level_out node x l e =
+    from_number 1 node.levels x l
+    (from_filtered (λ (p : ℕ × ℕ). is_among p.0 (flat_map occurrences (label_trees node))) (numbered_from 1 node.levels) (x, l) (level_is_listed (variables_of node) x l e)).0
+
+pub level_in : (node : Node) (x j l : ℕ) (t : Tree) → x ≡ 1 + j → slice_get node.levels j ≡ Some l → Contains (label_trees node) t → StandsIn (var x) t
+    → level_of (variables_of node) x ≡ Some l
+level_in node x j l t at e c h =
+    listed_level node (x, l)
+    (filtered (λ (p : ℕ × ℕ). is_among p.0 (flat_map occurrences (label_trees node))) (numbered_from 1 node.levels) (x, l)
+    (to_number 1 node.levels j l x at e)
+    (among_true (flat_map occurrences (label_trees node)) x (joined occurrences (label_trees node) t x c (in_occurrences x t h))))

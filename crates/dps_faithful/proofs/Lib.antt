@@ -1,3 +1,16 @@
 pub mod Lists
 pub mod Levels
+pub mod Deciding
+pub mod Bindings
+pub mod Kid
+pub mod Solved
+pub mod Processes
+pub mod KidValues
+pub mod Instances
+pub mod Dividing
+pub mod Inheriting
+pub mod OtherKid
+pub mod Parting
+pub mod Recording
+pub mod Entering
 pub mod Validity

@@ -4,7 +4,8 @@ use Rattle.std.specs.Prelude.{Contains, slice_get}
 use Rattle.std.proofs.lemmas.Cmp.{nat_eq_equiv}
 use Rattle.std.proofs.lemmas.Map.Views.{list_any-from_Contains}
 use Rattle.dps_node.specs.Numbering.{is_among}
-use Rattle.dps_symeval.proofs.Listed.{contains_none, contains_cases}
+use Rattle.dps_symeval.proofs.Listed.{contains_none, contains_first, contains_later, contains_cases}
+use Rattle.std.specs.List.{range_with_len}
 
 -- an element has a place
 pub placed : {X : Type 0} (xs : List X) (x : X) → Contains xs x → (j : ℕ) × (slice_get xs j ≡ Some x)
@@ -33,3 +34,27 @@ pub behind : {X : Type 0} (xs ys : List X) (j k : ℕ) → k ≡ length xs + j �
 behind [] ys j k e = ap (slice_get ys) (omega (arith, e))
 behind (x ∷ xs) ys j zero e = absurd (omega (arith, e))
 behind (x ∷ xs) ys j (suc k) e = behind xs ys j k (omega (arith, e))
+
+-- the numbers of a range
+pub in_range : (a n i x : ℕ) → i < n → x ≡ a + i → Contains (range_with_len a n) x
+in_range a zero i x h e = absurd (omega (arith, h))
+in_range a (suc n) zero x h e = let same : a ≡ x = omega (arith, e) in subst (λ y. Contains (a ∷ range_with_len (a + 1) n) y) same (contains_first a (range_with_len (a + 1) n))
+in_range a (suc n) (suc i) x h e = contains_later a (range_with_len (a + 1) n) x (in_range (a + 1) n i x (omega (arith, h)) (omega (arith, e)))
+
+-- what stands at a place
+pub at_place : {X : Type 0} (xs : List X) (j : ℕ) → j < length xs → (x : X) × (slice_get xs j ≡ Some x)
+at_place [] j h = absurd (omega (arith, h))
+at_place (x ∷ xs) zero h = (x, refl)
+at_place (x ∷ xs) (suc j) h = at_place xs j (omega (arith, h))
+
+-- nothing is added
+pub nothing_more : {X : Type 0} (xs ys : List X) → ys ≡ [] → xs ++ ys ≡ xs
+nothing_more [] ys e = e
+nothing_more {X} (x ∷ xs) ys e = ap (λ (zs : List X). x ∷ zs) (nothing_more xs ys e)
+
+pub from_range : (a n x : ℕ) → Contains (range_with_len a n) x → (i : ℕ) × (i < n) × (x ≡ a + i)
+from_range a zero x h = absurd (contains_none x h)
+from_range a (suc n) x h = elim (contains_cases a (range_with_len (a + 1) n) x h) [
+  | inl e ↦ (0, omega arith, omega (arith, e))
+  | inr k ↦ let d = from_range (a + 1) n x k in (suc d.0, omega (arith, d.1), omega (arith, d.2))
+]

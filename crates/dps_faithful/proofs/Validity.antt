@@ -127,7 +127,7 @@ module _ (problem : Problem) (node : Node) (sound : IsSound problem node) where
   pattern_leaf free x (inl h) = inl (wider_leaf node node.m node.m (omega arith) x h)
   pattern_leaf free x (inr h) = inr h
 
-  disequation_at : (d : Disequation) → Contains node.disequations d → IsNodeDisequation problem.signature node d
+  pub disequation_at : (d : Disequation) → Contains node.disequations d → IsNodeDisequation problem.signature node d
   disequation_at d h = All-contains (IsNodeDisequation problem.signature node) node.disequations d sound.older.disequations h
 
   module _ (c : SymbolicConfig) (listed : Contains node.configs c) where
