@@ -42,12 +42,12 @@ counted_cases n (x ∷ xs) y = elim (cases_Bool (nat_eq y x)) [
         let number : n + 1 + h.0 ≡ n + suc h.0 = omega arith in
         inl (suc h.0, h.1, ap (λ b. cond b (leaf (var n)) (counted_as as_variable (n + 1) xs y)) e ∙ h.2 ∙ ap (λ k. leaf (var k)) number)
     | inr h ↦ inr (
-        λ c. elim (contains_cases x xs y c) [
-            | inl d ↦ let q : true ≡ false = sym (eq-eqb y x d) ∙ e in cc
-            | inr k ↦ h.0 k
-          ],
-        ap (λ b. cond b (leaf (var n)) (counted_as as_variable (n + 1) xs y)) e ∙ h.1,
-      )
+      λ c. elim (contains_cases x xs y c) [
+        | inl d ↦ let q : true ≡ false = sym (eq-eqb y x d) ∙ e in cc
+        | inr k ↦ h.0 k
+      ],
+      ap (λ b. cond b (leaf (var n)) (counted_as as_variable (n + 1) xs y)) e ∙ h.1,
+    )
   ]
 ]
 

@@ -4,6 +4,7 @@ use Rattle.std.specs.Prelude.{◌⊎◌, Contains, All, unwrap_or, if◌then◌e
 use Rattle.std.proofs.lemmas.Bool.{cases_Bool, eqb-true, eq-eqb}
 use Rattle.std.proofs.lemmas.List.Elements.{All-nil, All-cons, All-head, All-tail, All-contains}
 use Rattle.std.proofs.lemmas.Map.Views.{Contains-from_any}
+use Rattle.dps_terms.specs.declared.Sym.{Sym}
 use Rattle.dps_terms.specs.Tree.{Leaf, public, private, var, ax, entry, rigid, Tree, Trees, leaf, app, none, more, StandsIn, IsAmong, itself, below, in_first, in_rest}
 use Rattle.dps_terms.specs.Replace.{replace, replace_all, substitute, variables_to}
 use Rattle.dps_terms.specs.Same.{same, same-true, same-self}
@@ -85,11 +86,12 @@ seen_either n p ps u a b (inl e) (inl k) = inl (ap (λ (o : Option Tree). either
 
 mutual
   unfolding seen all_seen
+
   seen_says : (r : ℕ → Tree) (n : ℕ) (p : Tree) → IsSeen n p (r n) (seen n p (substitute r p))
   seen_says r n (leaf x) = seen_at_leaf r n x
   seen_says r n (app f ps) = at (all_seen n ps (replace_all (variables_to r) ps)) (all_seen_say r n ps)
     where
-      outside : {f : _} {ps : Trees} → StandsIn (var n) (app f ps) → ¬ IsAmong (leaf (var n)) ps → ⊥
+      outside : {f : Sym} {ps : Trees} → StandsIn (var n) (app f ps) → ¬ IsAmong (leaf (var n)) ps → ⊥
       outside (below k) h = h k
 
       at : (o : Option Tree) → AreSeen n ps (r n) o → IsSeen n (app f ps) (r n) o

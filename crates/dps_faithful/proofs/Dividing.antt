@@ -156,7 +156,7 @@ module _ (problem : Problem) (node : Node) (sound : IsSound problem node) (c : S
       put_again : (x l : ℕ) → level_of (variables_of node) x ≡ Some l → substitute part (put x) ≡ substitute r (substitute s (put x))
       put_again x l e =
           substitute_agrees part (λ y. substitute r (s y)) (put x) (λ y h.
-              let k = kid_level problem node sound c ask solution found kid applies x l y e h in part_here y k.0 k.1)
+          let k = kid_level problem node sound c ask solution found kid applies x l y e h in part_here y k.0 k.1)
           ∙ sym (substitute_in_turn r s (put x))
 
       gives : (x l : ℕ) → level_of (variables_of node) x ≡ Some l → s x ≡ substitute part (put x)
@@ -165,10 +165,10 @@ module _ (problem : Problem) (node : Node) (sound : IsSound problem node) (c : S
             let is = same-true (put x) (leaf (var x)) d in
             sym (put_again x l e ∙ ap (λ (u : Tree). substitute r (substitute s u)) is ∙ ground_stays NoRigidName (system_of node) l (s x) r (solves.solution.choice.trees x l e))
         | inr d ↦
-            let pair = mapped (λ (p : ℕ × ℕ). (leaf (var p.0), put p.0)) (filter (λ (p : ℕ × ℕ). not (same (put p.0) (leaf (var p.0)))) (variables_of node)) (x, l)
+            let pair = mapped {B = Tree × Tree} (λ (p : ℕ × ℕ). (leaf (var p.0), put p.0)) (filter (λ (p : ℕ × ℕ). not (same (put p.0) (leaf (var p.0)))) (variables_of node)) (x, l)
             (filtered (λ (p : ℕ × ℕ). not (same (put p.0) (leaf (var p.0)))) (variables_of node) (x, l) (level_is_listed (variables_of node) x l e) (ap not d)) in
             let matches = All-contains (λ (p : Tree × Tree). substitute r p.1 ≡ p.0) (map (λ (p : Tree × Tree). (substitute s p.0, substitute s p.1)) barred.pairs) (s x, substitute s (put x)) all
-            (mapped (λ (p : Tree × Tree). (substitute s p.0, substitute s p.1)) barred.pairs (leaf (var x), put x) pair) in
+            (mapped {B = Tree × Tree} (λ (p : Tree × Tree). (substitute s p.0, substitute s p.1)) barred.pairs (leaf (var x), put x) pair) in
             sym (put_again x l e ∙ matches)
       ]
 
@@ -221,14 +221,14 @@ module _ (problem : Problem) (node : Node) (sound : IsSound problem node) (c : S
         where
           each : (q : Tree × Tree) → Contains (map (λ (p : Tree × Tree). (substitute s p.0, substitute s p.1)) barred.pairs) q → substitute back q.1 ≡ q.0
           each q h =
-              let p = from_mapped (λ (p : Tree × Tree). (substitute s p.0, substitute s p.1)) barred.pairs q h in
-              let x = from_mapped (λ (p : ℕ × ℕ). (leaf (var p.0), put p.0)) (filter (λ (p : ℕ × ℕ). not (same (put p.0) (leaf (var p.0)))) (variables_of node)) p.0 p.1 in
+              let p = from_mapped {B = Tree × Tree} (λ (p : Tree × Tree). (substitute s p.0, substitute s p.1)) barred.pairs q h in
+              let x = from_mapped {B = Tree × Tree} (λ (p : ℕ × ℕ). (leaf (var p.0), put p.0)) (filter (λ (p : ℕ × ℕ). not (same (put p.0) (leaf (var p.0)))) (variables_of node)) p.0 p.1 in
               let v = from_filtered (λ (p : ℕ × ℕ). not (same (put p.0) (leaf (var p.0)))) (variables_of node) x.0 x.1 in
               let level = listed_level node x.0 v.0 in
-              let pair : q ≡ (s x.0.0, substitute s (put x.0.0)) = p.2 ∙ ap (λ (w : Tree × Tree). (substitute s w.0, substitute s w.1)) x.2 in
-              subst (λ (w : Tree × Tree). substitute back w.1 ≡ w.0) (sym pair)
+              subst (λ (w : Tree × Tree). substitute back w.1 ≡ w.0) (sym p.2)
+              (subst (λ (w : Tree × Tree). substitute back (substitute s w.1) ≡ substitute s w.0) (sym x.2)
               (substitute_in_turn back s (put x.0.0) ∙ substitute_agrees (λ y. substitute back (s y)) t (put x.0.0) (λ y k. at_variable x.0.0 x.0.1 y level k)
-              ∙ sym (of.gives x.0.0 x.0.1 level))
+              ∙ sym (of.gives x.0.0 x.0.1 level)))
 
       pub never_both : ⊥
       never_both = All-contains (λ d. ¬ IsMatchedUnder s d) (node.disequations ++ barred ∷ []) barred solves.solution.respects.disequations (Contains-push node.disequations barred) matched

@@ -15,7 +15,7 @@ use Rattle.dps_solver.specs.Levels.{IsLeafUpTo, IsGroundUpTo}
 use Rattle.dps_solver.specs.Solutions.{IsNormalUnder, IsSolution}
 use Rattle.std.proofs.lemmas.List.Elements.{All-contains}
 use Rattle.dps_node.specs.Node.{Node, label_trees, variables_of, system_of}
-use Rattle.dps_node.specs.Knowing.{with_entry}
+use Rattle.dps_node.specs.Knowing.{with_entry, with_handle}
 use Rattle.dps_node.specs.Invariant.{IsSound}
 use Rattle.dps_faithful.proofs.Lists.{in_front, nothing_more}
 use Rattle.dps_faithful.proofs.Recording.{variable_low}
@@ -77,21 +77,36 @@ module _ (problem : Problem) (node : Node) (sound : IsSound problem node) (work 
   pub entering_keeps : (s : ℕ → Tree) → IsSolution NoRigidName (system_of node) s ↔ IsSolution NoRigidName (system_of after) s
   entering_keeps s = (
     λ h. record {
-        choice = record { trees = λ x l e. ground_after l (s x) (h.choice.trees x l e); others = h.choice.others };
-        normal = λ x l e. normal_after s (s x) (h.normal x l e);
-        respects = record {
-          labels = all_of (λ u. IsNormalUnder s (system_of after) (substitute s u)) (label_trees node) (λ u k.
-              normal_after s (substitute s u) (All-contains (λ u. IsNormalUnder s (system_of node) (substitute s u)) (label_trees node) u h.respects.labels k));
-          disequations = h.respects.disequations;
-        };
-      },
+      choice = record { trees = λ x l e. ground_after l (s x) (h.choice.trees x l e); others = h.choice.others };
+      normal = λ x l e. normal_after s (s x) (h.normal x l e);
+      respects = record {
+        labels = all_of (λ u. IsNormalUnder s (system_of after) (substitute s u)) (label_trees node) (λ u k.
+            normal_after s (substitute s u) (All-contains (λ u. IsNormalUnder s (system_of node) (substitute s u)) (label_trees node) u h.respects.labels k));
+        disequations = h.respects.disequations;
+      };
+    },
     λ h. record {
-        choice = record { trees = λ x l e. ground_before l (s x) (variable_low problem node sound work x l e) (h.choice.trees x l e); others = h.choice.others };
-        normal = λ x l e. normal_before s (s x) (h.normal x l e);
-        respects = record {
-          labels = all_of (λ u. IsNormalUnder s (system_of node) (substitute s u)) (label_trees node) (λ u k.
-              normal_before s (substitute s u) (All-contains (λ u. IsNormalUnder s (system_of after) (substitute s u)) (label_trees node) u h.respects.labels k));
-          disequations = h.respects.disequations;
-        };
-      },
+      choice = record { trees = λ x l e. ground_before l (s x) (variable_low problem node sound work x l e) (h.choice.trees x l e); others = h.choice.others };
+      normal = λ x l e. normal_before s (s x) (h.normal x l e);
+      respects = record {
+        labels = all_of (λ u. IsNormalUnder s (system_of node) (substitute s u)) (label_trees node) (λ u k.
+            normal_before s (substitute s u) (All-contains (λ u. IsNormalUnder s (system_of after) (substitute s u)) (label_trees node) u h.respects.labels k));
+        disequations = h.respects.disequations;
+      };
+    },
   )
+
+-- and so does the tree of a handle
+pub handle_keeps : (node : Node) (t : Tree) (s : ℕ → Tree) → IsSolution NoRigidName (system_of node) s ↔ IsSolution NoRigidName (system_of (with_handle node t)) s
+handle_keeps node t s = (
+  λ h. record {
+    choice = record { trees = h.choice.trees; others = h.choice.others };
+    normal = h.normal;
+    respects = record { labels = h.respects.labels; disequations = h.respects.disequations };
+  },
+  λ h. record {
+    choice = record { trees = h.choice.trees; others = h.choice.others };
+    normal = h.normal;
+    respects = record { labels = h.respects.labels; disequations = h.respects.disequations };
+  },
+)

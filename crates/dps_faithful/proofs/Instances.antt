@@ -112,7 +112,7 @@ module _ (problem : Problem) (node : Node) (sound : IsSound problem node) (c : S
     same_entry e h =
         let place = placed node.know.entries e h in
         let recipe = same e.recipe (λ x k.
-            let b = leaf_meets (IsEntryRecipeLeaf problem.signature node (suc place.0) e.level) (HasArity (shapes problem.signature)) (sound.older.recipes (suc place.0) e place.1) k in (b.0, b.1)) in
+        let b = leaf_meets (IsEntryRecipeLeaf problem.signature node (suc place.0) e.level) (HasArity (shapes problem.signature)) (sound.older.recipes (suc place.0) e place.1) k in (b.0, b.1)) in
         let composition = option_both (substitute put) (substitute t) (substitute s) e.composition
         (λ u d. same u (recorded_known problem node sound c ask solution found kid applies u (composition_listed node.know.entries e u h d))) in
         λ i. record { recipe = recipe i; level = e.level; composition = composition i }
@@ -122,7 +122,7 @@ module _ (problem : Problem) (node : Node) (sound : IsSound problem node) (c : S
         ap (know_under t) applies.know ∙
         (let entries = map_both (entry_under put) (entry_under t) (entry_under s) node.know.entries same_entry in
         let handles = map_both (substitute put) (substitute t) (substitute s) node.know.handles (λ u h.
-            same u (tree_known problem node sound c ask solution found kid applies node.m u (All-contains (IsNodeTree problem.signature node node.m) node.know.handles u sound.older.handles h).level)) in
+        same u (tree_known problem node sound c ask solution found kid applies node.m u (All-contains (IsNodeTree problem.signature node node.m) node.know.handles u sound.older.handles h).level)) in
         λ i. record { entries = entries i; handles = handles i })
 
     pub same_word : word kid t ≡ word node s

@@ -143,10 +143,10 @@ module _ (problem : Problem) (node : Node) (sound : IsSound problem node) (c : S
   kid_level x l w e st = elim (in_new_binding node c ask solution found x l w e st) [
     | inl h ↦ (h.k, old_level x l w e st h, h.low)
     | inr h ↦ (
-        new_level node solution.bindings h.v,
-        renumbered_level x l w e st h,
-        least_below (map (λ (p : ℕ × ℕ). p.1) (above h.v)) l (in_above x l h.v e h.stands),
-      )
+      new_level node solution.bindings h.v,
+      renumbered_level x l w e st h,
+      least_below (map (λ (p : ℕ × ℕ). p.1) (above h.v)) l (in_above x l h.v e h.stands),
+    )
   ]
 
   -- and it stands in one of its own level

@@ -5,6 +5,7 @@ use Rattle.std.specs.Option.{option_map}
 use Rattle.std.proofs.lemmas.List.{length-map}
 use Rattle.std.proofs.lemmas.List.Elements.{All-contains}
 use Rattle.std.proofs.lemmas.Option.{slice_get-map}
+use Rattle.dps_terms.specs.declared.Sym.{Sym}
 use Rattle.dps_terms.specs.Tree.{Leaf, public, private, var, ax, entry, rigid, Tree, Trees, leaf, app, none, more, StandsIn, IsAmong, itself, below, in_first, in_rest}
 use Rattle.dps_terms.specs.Replace.{replace, replace_all, substitute, variables_to, entries_to, put_entries, numbered}
 use Rattle.dps_terms.specs.Kinds.{AnySymbol, NoRigidName}
@@ -36,7 +37,7 @@ mutual
   leaf_of_instance f l (leaf z) h = (z, itself, h)
   leaf_of_instance f l (app g ts) h = let d = leaf_among f l ts (inside h) in (d.0, below d.1, d.2)
     where
-      inside : {g : _} {us : Trees} → StandsIn l (app g us) → IsAmong (leaf l) us
+      inside : {g : Sym} {us : Trees} → StandsIn l (app g us) → IsAmong (leaf l) us
       inside (below k) = k
 
   leaf_among : (f : Leaf → Tree) (l : Leaf) (ts : Trees) → IsAmong (leaf l) (replace_all f ts) → (z : Leaf) × IsAmong (leaf z) ts × StandsIn l (f z)

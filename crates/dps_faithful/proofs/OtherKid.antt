@@ -36,7 +36,7 @@ use Rattle.dps_node.specs.Node.{SymbolicConfig, Node, label_trees, variables_of,
 use Rattle.dps_node.specs.Numbering.{is_among}
 use Rattle.dps_node.specs.Splits.{binding, new_variables, new_level, IsConfigUnder, Applies, exclusion, excluded, IsSplit}
 use Rattle.dps_node.specs.Meaning.{IsTreeOver, IsSolutionOf, IsInstance, HasNormalTree, IsClosedInMeaning}
-use Rattle.dps_node.specs.Invariant.{HasNoOwnName, IsNoOwnName, IsOfNode, IsNodeTree, IsMessageLeaf, IsNodeMessage, IsNodePart, IsEntryRecipeLeaf, IsPatternLeafOf, IsNodeDisequation, known_level, HasLevels, HasOlderParts, HasFacts, IsSound}
+use Rattle.dps_node.specs.Invariant.{messages_in, HasNoOwnName, IsNoOwnName, IsOfNode, IsNodeTree, IsMessageLeaf, IsNodeMessage, IsNodePart, IsEntryRecipeLeaf, IsPatternLeafOf, IsNodeDisequation, known_level, HasLevels, HasOlderParts, HasFacts, IsSound}
 use Rattle.dps_faithful.specs.Laws.{HasLowNumbers, BindsTrees}
 use Rattle.dps_faithful.proofs.Lists.{among_true, in_range, from_range}
 use Rattle.dps_faithful.proofs.Levels.{level_is_listed, listed_level, level_out}
@@ -131,7 +131,7 @@ module _ (problem : Problem) (node : Node) (sound : IsSound problem node) (c : S
 
   barred_pair : (q : Tree × Tree) → Contains barred.pairs q → IsBarredPair q
   barred_pair q h =
-      let p = from_mapped (λ (p : ℕ × ℕ). (leaf (var p.0), put p.0)) (filter (λ (p : ℕ × ℕ). not (same (put p.0) (leaf (var p.0)))) (variables_of node)) q h in
+      let p = from_mapped {B = Tree × Tree} (λ (p : ℕ × ℕ). (leaf (var p.0), put p.0)) (filter (λ (p : ℕ × ℕ). not (same (put p.0) (leaf (var p.0)))) (variables_of node)) q h in
       let v = from_filtered (λ (p : ℕ × ℕ). not (same (put p.0) (leaf (var p.0)))) (variables_of node) p.0 p.1 in
       record { x = p.0.0; l = p.0.1; level = listed_level node p.0 v.0; is = p.2 }
 
@@ -227,7 +227,7 @@ module _ (problem : Problem) (node : Node) (sound : IsSound problem node) (c : S
   excludes : ExcludesBindings (scene_of node c) solution searched
   excludes = record {
     pairs = λ x l e differs.
-        mapped (λ (p : ℕ × ℕ). (leaf (var p.0), solution.bindings p.0)) (filter (λ (p : ℕ × ℕ). not (same (put p.0) (leaf (var p.0)))) (variables_of node)) (x, l)
+        mapped {B = Tree × Tree} (λ (p : ℕ × ℕ). (leaf (var p.0), solution.bindings p.0)) (filter (λ (p : ℕ × ℕ). not (same (put p.0) (leaf (var p.0)))) (variables_of node)) (x, l)
         (filtered (λ (p : ℕ × ℕ). not (same (put p.0) (leaf (var p.0)))) (variables_of node) (x, l) (level_is_listed (variables_of node) x l e)
         (elim (cases_Bool (same (put x) (leaf (var x)))) [
           | inr d ↦ ap not d
@@ -268,13 +268,13 @@ module _ (problem : Problem) (node : Node) (sound : IsSound problem node) (c : S
 
     each : (q : Tree × Tree) → Contains searched.pairs q → substitute back q.1 ≡ q.0
     each q h =
-        let p = from_mapped (λ (p : ℕ × ℕ). (leaf (var p.0), solution.bindings p.0)) (filter (λ (p : ℕ × ℕ). not (same (put p.0) (leaf (var p.0)))) (variables_of node)) q h in
+        let p = from_mapped {B = Tree × Tree} (λ (p : ℕ × ℕ). (leaf (var p.0), solution.bindings p.0)) (filter (λ (p : ℕ × ℕ). not (same (put p.0) (leaf (var p.0)))) (variables_of node)) q h in
         let v = from_filtered (λ (p : ℕ × ℕ). not (same (put p.0) (leaf (var p.0)))) (variables_of node) p.0 p.1 in
         let level = listed_level node p.0 v.0 in
-        let pair = mapped (λ (p : ℕ × ℕ). (leaf (var p.0), put p.0)) (filter (λ (p : ℕ × ℕ). not (same (put p.0) (leaf (var p.0)))) (variables_of node)) p.0 p.1 in
+        let pair = mapped {B = Tree × Tree} (λ (p : ℕ × ℕ). (leaf (var p.0), put p.0)) (filter (λ (p : ℕ × ℕ). not (same (put p.0) (leaf (var p.0)))) (variables_of node)) p.0 p.1 in
         let matches = All-contains (λ (w : Tree × Tree). substitute m.0 w.1 ≡ w.0) (map (λ (w : Tree × Tree). (substitute identity w.0, substitute identity w.1)) barred.pairs)
         (leaf (var p.0.0), substitute identity (put p.0.0)) m.2
-        (mapped (λ (w : Tree × Tree). (substitute identity w.0, substitute identity w.1)) barred.pairs (leaf (var p.0.0), put p.0.0) pair) in
+        (mapped {B = Tree × Tree} (λ (w : Tree × Tree). (substitute identity w.0, substitute identity w.1)) barred.pairs (leaf (var p.0.0), put p.0.0) pair) in
         subst (λ (w : Tree × Tree). substitute back w.1 ≡ w.0) (sym p.2)
         (substitute_agrees back (λ n. substitute m.0 (renumbered node c ask solution found n)) (solution.bindings p.0.0) (λ n k. back_at p.0.0 p.0.1 n level k)
         ∙ sym (substitute_in_turn m.0 (renumbered node c ask solution found) (solution.bindings p.0.0))
@@ -322,7 +322,7 @@ module _ (problem : Problem) (node : Node) (sound : IsSound problem node) (c : S
       rising = sound.levels.rising;
       entries = sound.levels.entries;
       variables = subst (λ (ls : List (ℕ × ℕ)). All (λ (p : ℕ × ℕ). p.1 ≤ known_level node) ls) (sym (same_variables problem node sound c ask solution found)) sound.levels.variables;
-      labels = λ before after d t e. tree_of_other _ t (sound.levels.labels before after d t e);
+      labels = λ before after d t e. tree_of_other (messages_in before) t (sound.levels.labels before after d t e);
       in_work = sound.levels.in_work;
     }
 
@@ -336,8 +336,10 @@ module _ (problem : Problem) (node : Node) (sound : IsSound problem node) (c : S
       each_message = sound.older.each_message;
       messages = All-weaker (λ (k : SymbolicConfig). All (IsNodeMessage problem.signature node) k.values × All (IsNodeMessage problem.signature node) k.frame)
           (λ (k : SymbolicConfig). All (IsNodeMessage problem.signature other) k.values × All (IsNodeMessage problem.signature other) k.frame)
-          (λ k h. (All-weaker (IsNodeMessage problem.signature node) (IsNodeMessage problem.signature other) message_of_other k.values h.0,
-          All-weaker (IsNodeMessage problem.signature node) (IsNodeMessage problem.signature other) message_of_other k.frame h.1)) node.configs sound.older.messages;
+          (λ k h. (
+            All-weaker (IsNodeMessage problem.signature node) (IsNodeMessage problem.signature other) message_of_other k.values h.0,
+            All-weaker (IsNodeMessage problem.signature node) (IsNodeMessage problem.signature other) message_of_other k.frame h.1,
+          )) node.configs sound.older.messages;
       parts = All-weaker (λ (k : SymbolicConfig). All (IsNodePart problem.signature node) k.parts) (λ (k : SymbolicConfig). All (IsNodePart problem.signature other) k.parts)
           (λ k h. All-weaker (IsNodePart problem.signature node) (IsNodePart problem.signature other) part_of_other k.parts h) node.configs sound.older.parts;
       recorded = All-weaker (λ t. IsComposed t × IsNodeTree problem.signature node node.m t) (λ t. IsComposed t × IsNodeTree problem.signature other node.m t)

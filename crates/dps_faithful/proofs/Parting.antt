@@ -17,7 +17,7 @@ use Rattle.dps_directions.specs.Valid.{IsComposed}
 use Rattle.dps_node.specs.Node.{SymbolicConfig, Node, with_configs, system_of}
 use Rattle.dps_node.specs.Splits.{IsConfigUnder, chosen, where_any, partition}
 use Rattle.dps_node.specs.Meaning.{IsSolutionOf, IsInstance, HasNormalTree, IsClosedInMeaning, SeparatesInstances, word}
-use Rattle.dps_node.specs.Invariant.{HasLevels, HasOlderParts, HasFacts, IsNodeTree, IsNodePart, IsNodeMessage, IsNodeDisequation, IsSound}
+use Rattle.dps_node.specs.Invariant.{messages_in, HasLevels, HasOlderParts, HasFacts, IsNodeTree, IsNodePart, IsNodeMessage, IsNodeDisequation, IsSound}
 use Rattle.dps_faithful.specs.Laws.{AreApart}
 
 module _ (problem : Problem) (node : Node) (cs : List SymbolicConfig) (among : (c : SymbolicConfig) → Contains cs c → Contains node.configs c) where
@@ -63,7 +63,7 @@ module _ (problem : Problem) (node : Node) (cs : List SymbolicConfig) (among : (
     rising = h.rising;
     entries = h.entries;
     variables = h.variables;
-    labels = λ before after c t e. tree_of_fewer _ t (h.labels before after c t e);
+    labels = λ before after c t e. tree_of_fewer (messages_in before) t (h.labels before after c t e);
     in_work = h.in_work;
   }
 
@@ -176,13 +176,13 @@ parted problem node holds long apart =
       words = λ s. (refl, refl);
       instances = λ s side c. (
         λ h. elim (to_chosen holds node.configs h.config long h.listed) [
-            | inl k ↦ inl (instance_of_fewer problem node (chosen true holds node.configs) one s side c h k)
-            | inr k ↦ inr (instance_of_fewer problem node (chosen false holds node.configs) two s side c h k)
-          ],
+          | inl k ↦ inl (instance_of_fewer problem node (chosen true holds node.configs) one s side c h k)
+          | inr k ↦ inr (instance_of_fewer problem node (chosen false holds node.configs) two s side c h k)
+        ],
         λ h. elim h [
-            | inl k ↦ instance_of_node problem node (chosen true holds node.configs) one s side c k
-            | inr k ↦ instance_of_node problem node (chosen false holds node.configs) two s side c k
-          ],
+          | inl k ↦ instance_of_node problem node (chosen true holds node.configs) one s side c k
+          | inr k ↦ instance_of_node problem node (chosen false holds node.configs) two s side c k
+        ],
       );
       apart = apart;
     }

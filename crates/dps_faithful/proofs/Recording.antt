@@ -63,17 +63,16 @@ recorded_after (suc (suc i)) t (e ∷ es) r h = elim (either_one e.composition (
 ]
 
 -- nothing that was recorded is lost, where the entry had none
-pub recorded_before : (i : ℕ) (t : Tree) (es : List Entry) (r : Tree) → ((e : Entry) → slice_get es (i - 1) ≡ Some e → e.composition ≡ None)
-    → Contains (composed_of es) r → Contains (composed_of (record_at i t es)) r
+pub recorded_before : (i : ℕ) (t : Tree) (es : List Entry) (r : Tree) → ((e : Entry) → slice_get es i ≡ Some e → e.composition ≡ None)
+    → Contains (composed_of es) r → Contains (composed_of (record_at (suc i) t es)) r
 recorded_before i t [] r free h = h
-recorded_before zero t (e ∷ es) r free h = h
-recorded_before (suc zero) t (e ∷ es) r free h = elim (either_one e.composition (composed_of es) r h) [
+recorded_before zero t (e ∷ es) r free h = elim (either_one e.composition (composed_of es) r h) [
   | inl d ↦ let q : None ≡ Some r = sym (free e refl) ∙ d in cc
   | inr k ↦ contains_later t (composed_of es) r k
 ]
-recorded_before (suc (suc i)) t (e ∷ es) r free h = elim (either_one e.composition (composed_of es) r h) [
+recorded_before (suc i) t (e ∷ es) r free h = elim (either_one e.composition (composed_of es) r h) [
   | inl d ↦ this_one e.composition (composed_of (record_at (suc i) t es)) r d
-  | inr k ↦ later_one e.composition (composed_of (record_at (suc i) t es)) r (recorded_before (suc i) t es r free k)
+  | inr k ↦ later_one e.composition (composed_of (record_at (suc i) t es)) r (recorded_before i t es r free k)
 ]
 
 -- the entries keep their levels
@@ -170,10 +169,10 @@ module _ (problem : Problem) (node : Node) (sound : IsSound problem node) (work 
   last_leaf (entry n) h = elim (cases_lt h.0.level node.m) [
     | inl low ↦ inr (h.0, h.1, omega (arith, low))
     | inr high ↦ inl (record {
-        i = n;
-        stands = itself;
-        old = λ l e at up. let same : h.0 ≡ e = one h.0 e (sym h.1 ∙ at) in let level = ap (λ (q : Entry). q.level) same in omega (arith, high, up, level);
-      })
+      i = n;
+      stands = itself;
+      old = λ l e at up. let same : h.0 ≡ e = one h.0 e (sym h.1 ∙ at) in let level = ap (λ (q : Entry). q.level) same in omega (arith, high, up, level);
+    })
   ]
     where
       one : (d e : Entry) → Some d ≡ Some e → d ≡ e
@@ -220,7 +219,7 @@ module _ (problem : Problem) (node : Node) (sound : IsSound problem node) (work 
   module _ (low : HasLowNumbers node) (c : SymbolicConfig) (listed : Contains node.configs c) (e : ℕ) (at : Entry) (there : slice_get node.know.entries e ≡ Some at) (free : at.composition ≡ None)
       (t : Tree) (is : IsNodeTree problem.signature node node.m t) (composed : IsComposed t)
       (value : (s : ℕ → Tree) (k l : SymbolicConfig) → IsSolution NoRigidName (system_of node) s → Contains node.configs k → IsConfigUnder node s k l
-          → (v : Tree) → slice_get l.values e ≡ Some v → put_entries l.values (substitute s t) ≡ v) where
+      → (v : Tree) → slice_get l.values e ≡ Some v → put_entries l.values (substitute s t) ≡ v) where
     fresh : IsSolution NoRigidName (system_of node) own
     unfolding own
     fresh = own_names_solve.narrow (scene_of node c) 0 (scene_is_valid problem node sound c listed low) system_names
@@ -326,7 +325,7 @@ module _ (problem : Problem) (node : Node) (sound : IsSound problem node) (work 
     normal_before s u normal r h inside =
         let o = from_mapped (substitute s) (compositions node.know) r h in
         normal r (subst (λ w. Contains (map (substitute s) (compositions after.know)) w) (sym o.2) (mapped (substitute s) (compositions after.know) o.0
-        (recorded_before (suc e) t node.know.entries o.0 (λ d k. let same : at ≡ d = one at d (sym there ∙ k) in ap (λ (q : Entry). q.composition) (sym same) ∙ free) o.1))) inside
+        (recorded_before e t node.know.entries o.0 (λ d k. let same : at ≡ d = one at d (sym there ∙ k) in ap (λ (q : Entry). q.composition) (sym same) ∙ free) o.1))) inside
       where
         one : (d e : Entry) → Some d ≡ Some e → d ≡ e
         one d e q = cc
@@ -334,22 +333,22 @@ module _ (problem : Problem) (node : Node) (sound : IsSound problem node) (work 
     pub same_solutions : (s : ℕ → Tree) → IsSolution NoRigidName (system_of node) s ↔ IsSolution NoRigidName (system_of after) s
     same_solutions s = (
       λ h. record {
-          choice = record { trees = λ x l e. ground_after l (s x) (h.choice.trees x l e); others = h.choice.others };
-          normal = λ x l e. normal_after s l (s x) (variable_low x l e) (h.choice.trees x l e) (h.normal x l e);
-          respects = record {
-            labels = all_of (λ u. IsNormalUnder s (system_of after) (substitute s u)) (label_trees node) (λ u k.
-                let level = label_low u k in
-                normal_after s level.0 (substitute s u) level.1 (level_of_instance NoRigidName node.m node.know (variables_of node) s level.0 h.choice.trees u level.2)
-                (All-contains (λ u. IsNormalUnder s (system_of node) (substitute s u)) (label_trees node) u h.respects.labels k));
-            disequations = h.respects.disequations;
-          };
-        },
+        choice = record { trees = λ x l e. ground_after l (s x) (h.choice.trees x l e); others = h.choice.others };
+        normal = λ x l e. normal_after s l (s x) (variable_low x l e) (h.choice.trees x l e) (h.normal x l e);
+        respects = record {
+          labels = all_of (λ u. IsNormalUnder s (system_of after) (substitute s u)) (label_trees node) (λ u k.
+              let level = label_low u k in
+              normal_after s level.0 (substitute s u) level.1 (level_of_instance NoRigidName node.m node.know (variables_of node) s level.0 h.choice.trees u level.2)
+              (All-contains (λ u. IsNormalUnder s (system_of node) (substitute s u)) (label_trees node) u h.respects.labels k));
+          disequations = h.respects.disequations;
+        };
+      },
       λ h. record {
-          choice = record { trees = λ x l e. ground_before l (s x) (h.choice.trees x l e); others = h.choice.others };
-          normal = λ x l e. normal_before s (s x) (h.normal x l e);
-          respects = record {
-            labels = All-weaker (λ u. IsNormalUnder s (system_of after) (substitute s u)) (λ u. IsNormalUnder s (system_of node) (substitute s u)) (λ u k. normal_before s (substitute s u) k) (label_trees node) h.respects.labels;
-            disequations = h.respects.disequations;
-          };
-        },
+        choice = record { trees = λ x l e. ground_before l (s x) (h.choice.trees x l e); others = h.choice.others };
+        normal = λ x l e. normal_before s (s x) (h.normal x l e);
+        respects = record {
+          labels = All-weaker (λ u. IsNormalUnder s (system_of after) (substitute s u)) (λ u. IsNormalUnder s (system_of node) (substitute s u)) (λ u k. normal_before s (substitute s u) k) (label_trees node) h.respects.labels;
+          disequations = h.respects.disequations;
+        };
+      },
     )

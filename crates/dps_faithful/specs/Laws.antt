@@ -17,7 +17,7 @@ use Rattle.dps_directions.specs.Valid.{IsValid, IsComposed}
 use Rattle.dps_directions.specs.Shapes.{IsListedFor}
 use Rattle.dps_node.specs.Node.{SymbolicConfig, Node, variables_of, system_of, scene_of}
 use Rattle.dps_node.specs.Splits.{binding, IsConfigUnder, IsSplit, partition}
-use Rattle.dps_node.specs.Knowing.{with_entry, with_composition}
+use Rattle.dps_node.specs.Knowing.{with_entry, with_handle, with_composition}
 use Rattle.dps_node.specs.Meaning.{IsTreeOver, IsSolutionOf, IsInstance, AgreesWith, SplitsSolutions, SeparatesInstances}
 use Rattle.dps_node.specs.Invariant.{HasNoOwnName, IsNodeTree, IsSound}
 
@@ -116,3 +116,9 @@ NewEntriesKeepSolutions =
     (problem : Problem) (node : Node) (recipe : Tree) (values : List Tree) (s : ℕ → Tree)
     → IsSound problem node → node.closed ≡ false
     → IsSolution NoRigidName (system_of node) s ↔ IsSolution NoRigidName (system_of (with_entry node recipe values)) s
+
+-- And so does the tree that is found for a handle.
+abbrev pub HandlesKeepSolutions : Type 0
+HandlesKeepSolutions =
+    (node : Node) (t : Tree) (s : ℕ → Tree)
+    → IsSolution NoRigidName (system_of node) s ↔ IsSolution NoRigidName (system_of (with_handle node t)) s

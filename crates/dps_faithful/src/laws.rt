@@ -1,7 +1,7 @@
 //! The laws of the tree's nodes. Each function does nothing: its contract is the law.
 ghost use Rattle.dps_faithful.specs.Laws.{ScenesAreValid, SplitsGiveToOne, PartitionsKeepInvariant, PartitionsPart};
 ghost use Rattle.dps_faithful.specs.Laws.{FirstKidsComeFromNodes, SecondKidsKeepInvariant};
-ghost use Rattle.dps_faithful.specs.Laws.{RecordingKeepsSolutions, NewEntriesKeepSolutions};
+ghost use Rattle.dps_faithful.specs.Laws.{RecordingKeepsSolutions, NewEntriesKeepSolutions, HandlesKeepSolutions};
 
 /// The scenes of a node that keeps the invariant are valid.
 pub fn scenes_are_valid()
@@ -41,4 +41,9 @@ pub fn recording_keeps_solutions()
 /// A new entry leaves the solutions of a node as they are.
 pub fn new_entries_keep_solutions()
     ensures { NewEntriesKeepSolutions }
+{}
+
+/// The tree that is found for a handle leaves them too.
+pub fn handles_keep_solutions()
+    ensures { HandlesKeepSolutions }
 {}
