@@ -39,7 +39,7 @@ use Rattle.dps_faithful.proofs.Solved.{same_tree, same_recorded, same_pairs}
 use Rattle.dps_faithful.proofs.KidValues.{leaf_of_instance, alone, entry_low, entry_at_back}
 use Rattle.dps_faithful.proofs.Instances.{agrees_with_kid}
 
-ground_back : (m : ℕ) (z : ℕ → Tree) (know : Knowledge) (l : ℕ) (t : Tree) → IsGroundUpTo NoRigidName m (know_under z know) l t → IsGroundUpTo NoRigidName m know l t
+pub ground_back : (m : ℕ) (z : ℕ → Tree) (know : Knowledge) (l : ℕ) (t : Tree) → IsGroundUpTo NoRigidName m (know_under z know) l t → IsGroundUpTo NoRigidName m know l t
 ground_back m z know l t up = built_weaker (IsLeafUpTo NoRigidName m (know_under z know) [] l) AnySymbol (IsLeafUpTo NoRigidName m know [] l) t up at
   where
     at : (x : Leaf) → IsLeafUpTo NoRigidName m (know_under z know) [] l x → IsLeafUpTo NoRigidName m know [] l x
@@ -115,15 +115,15 @@ module _ (problem : Problem) (node : Node) (sound : IsSound problem node) (c : S
       built_instance (IsLeafOver problem.signature) (HasShape (shapes problem.signature) Constructor) (IsLeafOver problem.signature) (variables_to (renumbered node c ask solution found))
       (solution.bindings x) (binds.over x) (λ z h k. renumbered_leaf z k)
 
-  module _ (t : ℕ → Tree) (solves : IsSolutionOf problem.signature kid t) where
+  module _ (t : ℕ → Tree) (solves : IsSolution NoRigidName (system_of kid) t) where
     chosen : Option ℕ → Tree → Tree → Tree
     chosen (Some l) u v = u
     chosen None u v = v
 
-    whole : ℕ → Tree
+    pub whole : ℕ → Tree
     whole x = chosen (level_of (variables_of node) x) (substitute t (put x)) (leaf (var x))
 
-    gives : (x l : ℕ) → level_of (variables_of node) x ≡ Some l → whole x ≡ substitute t (put x)
+    pub gives : (x l : ℕ) → level_of (variables_of node) x ≡ Some l → whole x ≡ substitute t (put x)
     unfolding whole chosen
     gives x l e = ap (λ (o : Option ℕ). chosen o (substitute t (put x)) (leaf (var x))) e
 
@@ -131,14 +131,14 @@ module _ (problem : Problem) (node : Node) (sound : IsSound problem node) (c : S
     unfolding whole chosen
     others x e = ap (λ (o : Option ℕ). chosen o (substitute t (put x)) (leaf (var x))) e
 
-    same_list : map (substitute t) (compositions kid.know) ≡ map (substitute whole) (compositions node.know)
+    pub same_list : map (substitute t) (compositions kid.know) ≡ map (substitute whole) (compositions node.know)
     same_list = same_recorded problem node sound c ask solution found kid applies whole t gives
 
     ground : (y k : ℕ) → level_of (variables_of kid) y ≡ Some k → IsGroundUpTo NoRigidName node.m node.know k (t y)
     ground y k e =
         ground_back node.m put node.know k (t y)
         (subst (λ (q : Knowledge). IsGroundUpTo NoRigidName node.m q k (t y)) applies.know
-        (subst (λ m. IsGroundUpTo NoRigidName m kid.know k (t y)) applies.m (solves.solution.choice.trees y k e)))
+        (subst (λ m. IsGroundUpTo NoRigidName m kid.know k (t y)) applies.m (solves.choice.trees y k e)))
 
     label_normal : (u : Tree) → Contains (label_trees node) u → IsNormalUnder whole (system_of node) (substitute whole u)
     label_normal u h r k inside =
@@ -146,7 +146,7 @@ module _ (problem : Problem) (node : Node) (sound : IsSound problem node) (c : S
         same_tree problem node sound c ask solution found kid applies whole t gives u (label_known problem node sound c ask solution found kid applies u h) in
         let there : Contains (label_trees kid) (substitute put u) =
         subst (λ (ts : List Tree). Contains ts (substitute put u)) (sym (kid_labels problem node sound c ask solution found kid applies)) (mapped (substitute put) (label_trees node) u h) in
-        All-contains (λ w. IsNormalUnder t (system_of kid) (substitute t w)) (label_trees kid) (substitute put u) solves.solution.respects.labels there r
+        All-contains (λ w. IsNormalUnder t (system_of kid) (substitute t w)) (label_trees kid) (substitute put u) solves.respects.labels there r
         (subst (λ (rs : List Tree). Contains rs r) (sym same_list) k) (subst (λ w. IsSubterm r w) (sym same) inside)
 
     whole_normal : (x l : ℕ) → level_of (variables_of node) x ≡ Some l → IsNormalUnder whole (system_of node) (whole x)
@@ -158,11 +158,11 @@ module _ (problem : Problem) (node : Node) (sound : IsSound problem node) (c : S
     unmatched d h m =
         let there : Contains kid.disequations (disequation_under put d) =
         subst (λ (ds : List Disequation). Contains ds (disequation_under put d)) (sym applies.disequations) (mapped (disequation_under put) node.disequations d h) in
-        All-contains (λ q. ¬ IsMatchedUnder t q) kid.disequations (disequation_under put d) solves.solution.respects.disequations there
+        All-contains (λ q. ¬ IsMatchedUnder t q) kid.disequations (disequation_under put d) solves.respects.disequations there
         (subst (λ (ps : List (Tree × Tree)). IsMatched d.free ps)
-        (sym (same_pairs problem node sound c ask solution found kid applies whole t gives others solves.solution.choice.others d h)) m)
+        (sym (same_pairs problem node sound c ask solution found kid applies whole t gives others solves.choice.others d h)) m)
 
-    solves_node : IsSolution NoRigidName (system_of node) whole
+    pub solves_node : IsSolution NoRigidName (system_of node) whole
     solves_node = record {
       choice = record {
         trees = λ x l e. subst (IsGroundUpTo NoRigidName node.m node.know l) (sym (gives x l e))
@@ -176,25 +176,29 @@ module _ (problem : Problem) (node : Node) (sound : IsSound problem node) (c : S
       };
     }
 
-    over_leaf : (x l : ℕ) → level_of (variables_of node) x ≡ Some l → (z : Leaf) → StandsIn z (put x) → IsLeafOver problem.signature z → IsTreeOver problem.signature (variables_to t z)
-    over_leaf x l e (public n) h k = k
-    over_leaf x l e (private n) h k = tt
-    over_leaf x l e (ax n) h k = tt
-    over_leaf x l e (entry n) h k = tt
-    over_leaf x l e (rigid n) h k = tt
-    over_leaf x l e (var n) h k = let j = kid_level problem node sound c ask solution found kid applies x l n e h in solves.over n j.0 j.1
+    module _ (over : (w l : ℕ) → level_of (variables_of kid) w ≡ Some l → IsTreeOver problem.signature (t w)) where
+      over_leaf : (x l : ℕ) → level_of (variables_of node) x ≡ Some l → (z : Leaf) → StandsIn z (put x) → IsLeafOver problem.signature z → IsTreeOver problem.signature (variables_to t z)
+      over_leaf x l e (public n) h k = k
+      over_leaf x l e (private n) h k = tt
+      over_leaf x l e (ax n) h k = tt
+      over_leaf x l e (entry n) h k = tt
+      over_leaf x l e (rigid n) h k = tt
+      over_leaf x l e (var n) h k = let j = kid_level problem node sound c ask solution found kid applies x l n e h in over n j.0 j.1
 
-    pub comes_from_node : ComesFromNode problem node solution.bindings kid t
-    comes_from_node = record {
-      s = whole;
-      solves = record {
+      pub solves_over : IsSolutionOf problem.signature node whole
+      solves_over = record {
         solution = solves_node;
         over = λ x l e. subst (IsTreeOver problem.signature) (sym (gives x l e))
             (built_instance (IsLeafOver problem.signature) (HasShape (shapes problem.signature) Constructor) (IsLeafOver problem.signature) (variables_to t) (put x) (put_over x) (over_leaf x l e));
-      };
-      gives = gives;
-      agrees = agrees_with_kid problem node sound c ask solution found kid applies whole t gives low solves.solution.choice solves_node.choice;
-    }
+      }
+
+      pub comes_from_node : ComesFromNode problem node solution.bindings kid t
+      comes_from_node = record {
+        s = whole;
+        solves = solves_over;
+        gives = gives;
+        agrees = agrees_with_kid problem node sound c ask solution found kid applies whole t gives low solves.choice solves_node.choice;
+      }
 
 pub first_comes_from : (problem : Problem) (node first second : Node) (c : SymbolicConfig) (ask : Ask) (solution : GeneralSolution) → IsSound problem node
     → IsListedFor NoRigidName (scene_of node c) ask solution → BindsTrees problem.signature solution → IsSplit node solution.bindings (first ∷ second ∷ []) → HasLowNumbers first
@@ -202,8 +206,8 @@ pub first_comes_from : (problem : Problem) (node first second : Node) (c : Symbo
 first_comes_from problem node first second c ask solution sound found binds split low t solves =
     let one : split.0 ≡ first = at first second split.0 (excluded node solution.bindings) split.2 in
     subst (λ (q : Node). ComesFromNode problem node solution.bindings q t) one
-    (comes_from_node problem node sound c ask solution found split.0 split.1 binds (subst HasLowNumbers (sym one) low) t
-    (subst (λ (q : Node). IsSolutionOf problem.signature q t) (sym one) solves))
+    (let there : IsSolutionOf problem.signature split.0 t = subst (λ (q : Node). IsSolutionOf problem.signature q t) (sym one) solves in
+    comes_from_node problem node sound c ask solution found split.0 split.1 binds (subst HasLowNumbers (sym one) low) t there.solution there.over)
   where
     at : (x y z w : Node) → x ∷ y ∷ [] ≡ z ∷ w ∷ [] → z ≡ x
     at x y z w e = cc

@@ -45,7 +45,7 @@ use Rattle.dps_faithful.proofs.Processes.{Agree, replace_in_agrees, each_binder}
 use Rattle.dps_faithful.proofs.KidValues.{alone, value_known, have_older}
 
 -- pairs of two lists
-zip_left : {X Y : Type 0} (R : X → Y → Type 0) (xs : List X) (ys : List Y) (y : Y) → AllZip R xs ys → Contains ys y → (x : X) × Contains xs x × R x y
+pub zip_left : {X Y : Type 0} (R : X → Y → Type 0) (xs : List X) (ys : List Y) (y : Y) → AllZip R xs ys → Contains ys y → (x : X) × Contains xs x × R x y
 zip_left R [] [] y h c = absurd (contains_none y c)
 zip_left R [] (v ∷ ys) y h c = absurd h
 zip_left R (u ∷ xs) [] y h c = absurd h
@@ -77,7 +77,7 @@ option_both : (f h k : Tree → Tree) (o : Option Tree) → ((u : Tree) → o �
 option_both f h k None e = refl
 option_both f h k (Some u) e = ap Some (e u refl)
 
-composition_listed : (es : List Entry) (e : Entry) (u : Tree) → Contains es e → e.composition ≡ Some u → Contains (filter_map (λ (e : Entry). e.composition) es) u
+pub composition_listed : (es : List Entry) (e : Entry) (u : Tree) → Contains es e → e.composition ≡ Some u → Contains (filter_map (λ (e : Entry). e.composition) es) u
 composition_listed [] e u h d = absurd (contains_none e h)
 composition_listed (x ∷ es) e u h d = elim (contains_cases x es e h) [
   | inl same ↦ at x.composition (ap (λ (q : Entry). q.composition) (sym same) ∙ d)

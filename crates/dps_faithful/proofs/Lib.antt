@@ -10,6 +10,7 @@ pub mod Instances
 pub mod Dividing
 pub mod Inheriting
 pub mod OtherKid
+pub mod InheritedFacts
 pub mod Parting
 pub mod Recording
 pub mod Entering

@@ -244,7 +244,7 @@ module _ (problem : Problem) (node : Node) (sound : IsSound problem node) (work 
     known_leaf up (var n) h = tt
     known_leaf up (entry zero) h = let q : None ≡ Some h.0 = h.1 in cc
     known_leaf up (entry (suc n)) h = elim (cases_lt n e) [
-      | inl below ↦ (omega arith, omega (arith, below))
+      | inl less ↦ (omega arith, omega (arith, less))
       | inr above ↦ absurd (
           let rises = sound.levels.rising (suc e) (suc n) at h.0 there h.1 (omega (arith, above)) in
           omega (arith, rises, up, h.2, some_messages))

@@ -1,5 +1,5 @@
 -- The laws, each over all problems and nodes.
-use Rattle.std.specs.Prelude.{◌≡◌, ◌↔◌, ◌<◌, ℕ, suc, ◌^◌, Bool, false, List, [], ◌∷◌, Some, None, length, slice_get, Contains}
+use Rattle.std.specs.Prelude.{◌≡◌, ◌↔◌, ◌<◌, ℕ, suc, ◌^◌, Bool, true, false, List, [], ◌∷◌, Some, None, length, slice_get, Contains}
 use Rattle.dps_branch.specs.declared.Side.{Side}
 use Rattle.dps_terms.specs.Tree.{rigid, Tree, StandsIn}
 use Rattle.dps_terms.specs.Replace.{substitute, put_entries}
@@ -18,8 +18,8 @@ use Rattle.dps_directions.specs.Shapes.{IsListedFor}
 use Rattle.dps_node.specs.Node.{SymbolicConfig, Node, variables_of, system_of, scene_of}
 use Rattle.dps_node.specs.Splits.{binding, IsConfigUnder, IsSplit, partition}
 use Rattle.dps_node.specs.Knowing.{with_entry, with_handle, with_composition}
-use Rattle.dps_node.specs.Meaning.{IsTreeOver, IsSolutionOf, IsInstance, AgreesWith, SplitsSolutions, SeparatesInstances}
-use Rattle.dps_node.specs.Invariant.{HasNoOwnName, IsNodeTree, IsSound}
+use Rattle.dps_node.specs.Meaning.{IsTreeOver, IsSolutionOf, IsInstance, IsClosedInMeaning, AgreesWith, SplitsSolutions, SeparatesInstances}
+use Rattle.dps_node.specs.Invariant.{HasNoOwnName, IsNodeTree, HasFacts, HasRecipes, IsSound}
 
 -- the numbers that variables were given are none of those that processes bind
 abbrev pub HasLowNumbers : Node → Type 0
@@ -66,6 +66,24 @@ FirstKidsComeFromNodes =
     → IsSound problem node → IsListedIn node solution → BindsTrees problem.signature solution
     → IsSplit node solution.bindings (first ∷ second ∷ []) → HasLowNumbers first
     → IsSolutionOf problem.signature first t → ComesFromNode problem node solution.bindings first t
+
+-- what the invariant says of what a node's configurations become, under each solution
+pub record HasMeaning (problem : Problem) (node : Node) : Type 0 where
+  pub facts :
+      (s : ℕ → Tree) (k l : SymbolicConfig) → IsSolution NoRigidName (system_of node) s
+      → Contains node.configs k → IsConfigUnder node s k l → HasFacts node s l
+  pub recipes :
+      (s : ℕ → Tree) (k l : SymbolicConfig) → IsSolutionOf problem.signature node s
+      → Contains node.configs k → IsConfigUnder node s k l → HasRecipes problem node s l
+  pub closed : node.closed ≡ true → IsClosedInMeaning problem node
+
+-- This part of the invariant passes to the first kid.
+abbrev pub FirstKidsInheritMeaning : Type 0
+FirstKidsInheritMeaning =
+    (problem : Problem) (node first second : Node) (solution : GeneralSolution)
+    → IsSound problem node → IsListedIn node solution → BindsTrees problem.signature solution
+    → IsSplit node solution.bindings (first ∷ second ∷ []) → HasLowNumbers first
+    → HasMeaning problem first
 
 -- The second kid of a split keeps the invariant.
 abbrev pub SecondKidsKeepInvariant : Type 0

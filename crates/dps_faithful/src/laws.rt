@@ -1,6 +1,6 @@
 //! The laws of the tree's nodes. Each function does nothing: its contract is the law.
 ghost use Rattle.dps_faithful.specs.Laws.{ScenesAreValid, SplitsGiveToOne, PartitionsKeepInvariant, PartitionsPart};
-ghost use Rattle.dps_faithful.specs.Laws.{FirstKidsComeFromNodes, SecondKidsKeepInvariant};
+ghost use Rattle.dps_faithful.specs.Laws.{FirstKidsComeFromNodes, FirstKidsInheritMeaning, SecondKidsKeepInvariant};
 ghost use Rattle.dps_faithful.specs.Laws.{RecordingKeepsSolutions, NewEntriesKeepSolutions, HandlesKeepSolutions};
 
 /// The scenes of a node that keeps the invariant are valid.
@@ -16,6 +16,11 @@ pub fn splits_give_to_one()
 /// Each solution of the first kid of a split is one of the node, with the same word and instances.
 pub fn first_kids_come_from_nodes()
     ensures { FirstKidsComeFromNodes }
+{}
+
+/// What the invariant says of what configurations become passes to the first kid of a split.
+pub fn first_kids_inherit_meaning()
+    ensures { FirstKidsInheritMeaning }
 {}
 
 /// The second kid of a split keeps the invariant.
