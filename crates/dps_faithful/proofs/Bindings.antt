@@ -1,10 +1,10 @@
 -- The bindings of a listed solution in a node, and the numbers that their new variables get.
-use Rattle.std.proofs.Common.{◌≡◌, ℕ, zero, suc, ◌+◌, ◌<◌, ◌≤◌, List, [], ◌∷◌, ◌++◌, map, length, refl, sym, ◌∙◌, ap, subst, inl, inr, arith, cond, nat_eq, Bool, true, false, Option, Some, None}
-use Rattle.std.specs.Prelude.{◌⊎◌, Contains, All, Any, slice_get, not, if◌then◌else◌}
+use Rattle.std.proofs.Common.{◌≡◌, ℕ, suc, ◌+◌, ◌<◌, ◌≤◌, List, ◌∷◌, ◌++◌, map, length, refl, sym, ◌∙◌, ap, subst, inl, inr, arith, cond, nat_eq, Bool, true, false, Some, None}
+use Rattle.std.specs.Prelude.{◌⊎◌, Contains, slice_get, not}
 use Rattle.std.specs.List.{flat_map}
 use Rattle.std.proofs.lemmas.Bool.{cases_Bool, eqb-true, eq-eqb}
 use Rattle.std.proofs.lemmas.Map.Views.{Contains-from_any}
-use Rattle.dps_terms.specs.Tree.{Leaf, var, Tree, leaf, StandsIn}
+use Rattle.dps_terms.specs.Tree.{var, Tree, leaf, StandsIn}
 use Rattle.dps_terms.specs.Replace.{substitute}
 use Rattle.dps_terms.specs.Variables.{occurrences, each_once}
 use Rattle.dps_terms.specs.Kinds.{NoRigidName}
@@ -181,7 +181,7 @@ module _ (node : Node) (c : SymbolicConfig) (ask : Ask) (solution : GeneralSolut
       ]
 
   -- a free variable of a disequation is none of them
-  in_system : (d : Disequation) (x : ℕ) → Contains node.disequations d → Contains d.free x → Contains (system_numbers (system_of node)) x
+  pub in_system : (d : Disequation) (x : ℕ) → Contains node.disequations d → Contains d.free x → Contains (system_numbers (system_of node)) x
   in_system d x h k =
       in_right x (map (λ (p : ℕ × ℕ). p.0) levels) _ (in_right x (flat_map entry_numbers node.know.entries) _ (in_right x (flat_map occurrences (compositions node.know)) _
       (in_right x (flat_map occurrences node.know.handles) _ (in_right x (flat_map occurrences (label_trees node)) (flat_map disequation_numbers node.disequations)

@@ -1,16 +1,15 @@
 -- Whether patterns have a match.
-use Rattle.std.proofs.Common.{◌≡◌, ℕ, List, [], ◌∷◌, refl, sym, ◌∙◌, ap, subst, inl, inr, cond, nat_eq, Bool, true, false, Option, Some, None}
+use Rattle.std.proofs.Common.{◌≡◌, ℕ, List, ◌∷◌, refl, sym, ◌∙◌, ap, subst, inl, inr, cond, nat_eq, true, false, Option, Some, None}
 use Rattle.std.specs.Prelude.{◌⊎◌, Contains, All, unwrap_or, if◌then◌else◌}
 use Rattle.std.proofs.lemmas.Bool.{cases_Bool, eqb-true, eq-eqb}
 use Rattle.std.proofs.lemmas.List.Elements.{All-nil, All-cons, All-head, All-tail, All-contains}
 use Rattle.std.proofs.lemmas.Map.Views.{Contains-from_any}
 use Rattle.dps_terms.specs.declared.Sym.{Sym}
 use Rattle.dps_terms.specs.Tree.{Leaf, public, private, var, ax, entry, rigid, Tree, Trees, leaf, app, none, more, StandsIn, IsAmong, itself, below, in_first, in_rest}
-use Rattle.dps_terms.specs.Replace.{replace, replace_all, substitute, variables_to}
+use Rattle.dps_terms.specs.Replace.{replace_all, substitute, variables_to}
 use Rattle.dps_terms.specs.Same.{same, same-true, same-self}
 use Rattle.dps_unify.specs.Matching.{Keeps}
 use Rattle.dps_unify.proofs.Trees.{substitute_agrees}
-use Rattle.dps_know.proofs.Listing.{all_of}
 use Rattle.dps_symeval.proofs.Listed.{contains_none, contains_first, contains_later, contains_cases}
 use Rattle.dps_node.specs.Numbering.{is_among}
 use Rattle.dps_solver.specs.Solutions.{IsMatched}

@@ -1,13 +1,12 @@
 -- A split gives each solution of a node to just one of its kids.
-use Rattle.std.proofs.Common.{◌≡◌, ℕ, zero, suc, ◌+◌, ◌<◌, ◌≤◌, List, [], ◌∷◌, ◌++◌, map, length, refl, sym, ◌∙◌, ap, subst, inl, inr, arith, cond, Bool, true, false, Option, Some, None}
-use Rattle.std.specs.Prelude.{◌⊎◌, ◌↔◌, Contains, All, filter, not, if◌then◌else◌}
-use Rattle.std.specs.List.{flat_map, range_with_len}
+use Rattle.std.proofs.Common.{◌≡◌, ℕ, ◌+◌, ◌≤◌, List, ◌∷◌, ◌++◌, map, length, refl, sym, ◌∙◌, ap, subst, inl, inr, arith, cond, Bool, false, Option, Some, None}
+use Rattle.std.specs.Prelude.{Contains, All, filter, not, if◌then◌else◌}
+use Rattle.std.specs.List.{flat_map}
 use Rattle.std.proofs.lemmas.Bool.{cases_Bool, eqb-true}
 use Rattle.std.proofs.lemmas.Option.{slice_get_within}
 use Rattle.std.proofs.lemmas.List.Elements.{All-nil, All-cons, All-contains, All-push, Contains-push, filter-append}
 use Rattle.std.proofs.lemmas.Map.Views.{Contains-from_any}
-use Rattle.dps_branch.specs.declared.Side.{Side}
-use Rattle.dps_terms.specs.Tree.{Leaf, var, Tree, leaf, StandsIn, itself}
+use Rattle.dps_terms.specs.Tree.{var, Tree, leaf, StandsIn, itself}
 use Rattle.dps_terms.specs.Replace.{substitute, variables_to}
 use Rattle.dps_terms.specs.Variables.{occurrences}
 use Rattle.dps_terms.specs.Kinds.{AnySymbol, NoRigidName}
@@ -15,13 +14,12 @@ use Rattle.dps_terms.proofs.Building.{leaf_meets}
 use Rattle.dps_solver.specs.Levels.{IsLeafUpTo}
 use Rattle.dps_terms.specs.Same.{same, same-true}
 use Rattle.dps_process.specs.Problem.{Problem}
-use Rattle.dps_process.specs.Steps.{Config}
 use Rattle.dps_unify.specs.Order.{level_of}
 use Rattle.dps_unify.specs.Matching.{Keeps}
 use Rattle.dps_unify.proofs.Trees.{substitute_in_turn, substitute_agrees}
 use Rattle.dps_know.proofs.Listing.{all_of}
 use Rattle.dps_solver.specs.Scene.{Disequation, Ask}
-use Rattle.dps_solver.specs.Solutions.{IsMatched, IsMatchedUnder, IsSolution}
+use Rattle.dps_solver.specs.Solutions.{IsMatchedUnder}
 use Rattle.dps_solver.specs.Search.{GeneralSolution}
 use Rattle.dps_symeval.proofs.Listed.{contains_first, contains_later, mapped, from_mapped, from_joined, filtered, from_filtered}
 use Rattle.dps_directions.specs.Shapes.{IsListedFor}
@@ -30,7 +28,7 @@ use Rattle.dps_directions.proofs.Respecting.{ground_stays}
 use Rattle.dps_node.specs.Node.{SymbolicConfig, Node, numbered_from, label_trees, variables_of, system_of, scene_of}
 use Rattle.dps_node.specs.Numbering.{is_among}
 use Rattle.dps_node.specs.Splits.{binding, new_variables, new_levels, IsConfigUnder, Applies, exclusion, excluded, IsSplit}
-use Rattle.dps_node.specs.Meaning.{IsSolutionOf, IsInstance, AgreesWith, IsOfFirstKid, SplitsSolutions}
+use Rattle.dps_node.specs.Meaning.{IsSolutionOf, AgreesWith, IsOfFirstKid, SplitsSolutions}
 use Rattle.dps_node.specs.Invariant.{IsSound}
 use Rattle.dps_node.proofs.Trees.{agree_back}
 use Rattle.dps_faithful.specs.Laws.{HasLowNumbers}
@@ -38,8 +36,8 @@ use Rattle.dps_faithful.proofs.Lists.{among_true, in_range, nothing_more}
 use Rattle.dps_faithful.proofs.Levels.{occurrence_stands, level_is_listed, listed_level, level_out}
 use Rattle.dps_faithful.proofs.Validity.{label_tree_is}
 use Rattle.dps_faithful.proofs.Deciding.{matched_or_not}
-use Rattle.dps_faithful.proofs.Bindings.{news, in_new_binding}
-use Rattle.dps_faithful.proofs.Kid.{label_known, kid_level, lowest}
+use Rattle.dps_faithful.proofs.Bindings.{in_new_binding}
+use Rattle.dps_faithful.proofs.Kid.{kid_level, lowest}
 use Rattle.dps_faithful.proofs.Solved.{solves_kid_over}
 use Rattle.dps_faithful.proofs.Instances.{agrees_with_kid}
 

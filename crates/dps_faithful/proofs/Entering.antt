@@ -1,20 +1,19 @@
 -- A new entry leaves the solutions of a node as they are.
-use Rattle.std.proofs.Common.{◌≡◌, ℕ, zero, suc, ◌+◌, ◌<◌, ◌≤◌, List, [], ◌∷◌, ◌++◌, map, length, refl, sym, ◌∙◌, ap, subst, inl, inr, arith, false, Option, Some, None}
-use Rattle.std.specs.Prelude.{◌⊎◌, ◌↔◌, Contains, All, slice_get, filter_map}
+use Rattle.std.proofs.Common.{◌≡◌, ℕ, zero, suc, ◌+◌, ◌<◌, List, ◌∷◌, ◌++◌, map, refl, sym, ◌∙◌, ap, subst, inl, inr, arith, false, Some, None}
+use Rattle.std.specs.Prelude.{◌⊎◌, ◌↔◌, Contains, slice_get, filter_map}
 use Rattle.std.proofs.lemmas.List.Elements.{filter_map-append}
-use Rattle.dps_terms.specs.Tree.{Leaf, public, private, var, ax, entry, rigid, Tree, IsSubterm}
+use Rattle.dps_terms.specs.Tree.{Leaf, public, private, var, ax, entry, rigid, Tree}
 use Rattle.dps_terms.specs.Replace.{substitute}
 use Rattle.dps_terms.specs.Kinds.{AnySymbol, NoRigidName}
 use Rattle.dps_terms.proofs.Building.{built_weaker}
 use Rattle.dps_process.specs.Problem.{Problem}
-use Rattle.dps_unify.specs.Order.{level_of}
 use Rattle.dps_know.specs.Know.{compositions}
 use Rattle.dps_know.specs.declared.know.Entry.{Entry}
 use Rattle.dps_know.proofs.Listing.{all_of}
 use Rattle.dps_solver.specs.Levels.{IsLeafUpTo, IsGroundUpTo}
 use Rattle.dps_solver.specs.Solutions.{IsNormalUnder, IsSolution}
 use Rattle.std.proofs.lemmas.List.Elements.{All-contains}
-use Rattle.dps_node.specs.Node.{Node, label_trees, variables_of, system_of}
+use Rattle.dps_node.specs.Node.{Node, label_trees, system_of}
 use Rattle.dps_node.specs.Knowing.{with_entry, with_handle}
 use Rattle.dps_node.specs.Invariant.{IsSound}
 use Rattle.dps_faithful.proofs.Lists.{in_front, nothing_more}

@@ -1,5 +1,5 @@
 -- The facts of a node pass to the first kid of a split.
-use Rattle.std.proofs.Common.{◌≡◌, ℕ, zero, suc, ◌+◌, ◌-◌, ◌<◌, ◌≤◌, List, [], ◌∷◌, map, length, refl, sym, ◌∙◌, ap, subst, inl, inr, arith, true, false, Option, Some, None}
+use Rattle.std.proofs.Common.{◌≡◌, ℕ, suc, ◌-◌, ◌≤◌, List, ◌∷◌, map, refl, sym, ◌∙◌, ap, subst, inl, inr, arith, Option, Some, None}
 use Rattle.std.specs.Prelude.{◌⊎◌, ◌≢◌, Contains, Any, slice_get, if◌then◌else◌}
 use Rattle.std.specs.Option.{option_map}
 use Rattle.std.proofs.lemmas.List.Elements.{All-contains}
@@ -31,8 +31,8 @@ use Rattle.dps_node.specs.Invariant.{known_level, IsNodeTree, HasFacts, HasRecip
 use Rattle.dps_faithful.specs.Laws.{HasLowNumbers, BindsTrees, HasMeaning}
 use Rattle.dps_faithful.proofs.Kid.{kid_labels, label_known}
 use Rattle.dps_faithful.proofs.Solved.{ground_under, compositions_under, tree_known, recorded_known, same_tree, same_recorded}
-use Rattle.dps_faithful.proofs.Instances.{zip_left, composition_listed, same_know, to_node, agrees_with_kid}
-use Rattle.dps_faithful.proofs.Inheriting.{ground_back, whole, gives, solves_node, solves_over, comes_from_node}
+use Rattle.dps_faithful.proofs.Instances.{zip_left, composition_listed, same_know, to_node}
+use Rattle.dps_faithful.proofs.Inheriting.{ground_back, whole, gives, solves_node, solves_over, agrees_whole}
 
 -- what stood at a place before
 at_before : {X Y : Type 0} (f : X → Y) (o : Option X) (y : Y) → option_map f o ≡ Some y → (x : X) × (o ≡ Some x) × (y ≡ f x)
@@ -180,7 +180,7 @@ module _ (problem : Problem) (node : Node) (sound : IsSound problem node) (c : S
     over_node = solves_over problem node sound c ask solution found kid applies binds low t h.solution h.over
 
     instance_was : (side : Side) (d : Config) → IsInstance kid t side d → IsInstance node of side d
-    instance_was side d i = ((comes_from_node problem node sound c ask solution found kid applies binds low t h.solution h.over).agrees.instances side d).0 i
+    instance_was side d i = ((agrees_whole problem node sound c ask solution found kid applies binds low t h.solution).instances side d).0 i
 
     normal_tree : (r : Tree) → HasNormalTree problem node of r → HasNormalTree problem kid t r
     normal_tree r n = record {

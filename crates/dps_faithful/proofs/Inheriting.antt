@@ -1,10 +1,10 @@
 -- A solution of the first kid of a split is one of the node, with the same word and instances.
-use Rattle.std.proofs.Common.{◌≡◌, ℕ, zero, suc, ◌+◌, ◌<◌, ◌≤◌, List, [], ◌∷◌, map, length, refl, sym, ◌∙◌, ap, subst, inl, inr, arith, Option, Some, None}
-use Rattle.std.specs.Prelude.{◌⊎◌, Contains, All, Any}
+use Rattle.std.proofs.Common.{◌≡◌, ℕ, ◌+◌, List, ◌∷◌, map, sym, ap, subst, inl, inr, arith, Option, Some, None}
+use Rattle.std.specs.Prelude.{Contains}
 use Rattle.std.proofs.lemmas.List.Elements.{All-contains}
 use Rattle.dps_terms.specs.Tree.{Leaf, public, private, var, ax, entry, rigid, Tree, leaf, StandsIn, IsSubterm}
 use Rattle.dps_terms.specs.Replace.{substitute, variables_to}
-use Rattle.dps_terms.specs.Kinds.{IsBuiltOf, AnySymbol, IsNoVariable, NoRigidName}
+use Rattle.dps_terms.specs.Kinds.{AnySymbol, IsNoVariable, NoRigidName}
 use Rattle.dps_signature.specs.Signature.{HasShape, shapes}
 use Rattle.dps_signature.specs.declared.SymKind.TheVariants.{Constructor}
 use Rattle.dps_signature.specs.Kinds.{IsLeafOver}
@@ -13,7 +13,7 @@ use Rattle.dps_terms.proofs.Replacing.{keeps_subterms}
 use Rattle.dps_terms.proofs.Subterms.{nested}
 use Rattle.dps_process.specs.Problem.{Problem}
 use Rattle.dps_unify.specs.Order.{level_of}
-use Rattle.dps_know.specs.Know.{Knowledge, entry_at, know_under, compositions}
+use Rattle.dps_know.specs.Know.{Knowledge, know_under, compositions}
 use Rattle.dps_know.specs.declared.know.Entry.{Entry}
 use Rattle.dps_know.proofs.Listing.{all_of}
 use Rattle.dps_solver.specs.Levels.{IsLeafUpTo, IsTreeUpTo, IsGroundUpTo}
@@ -36,7 +36,8 @@ use Rattle.dps_faithful.proofs.Levels.{is_labelled}
 use Rattle.dps_faithful.proofs.Bindings.{first, news, renumbered, counted_cases}
 use Rattle.dps_faithful.proofs.Kid.{kid_labels, kid_level, label_known}
 use Rattle.dps_faithful.proofs.Solved.{same_tree, same_recorded, same_pairs}
-use Rattle.dps_faithful.proofs.KidValues.{leaf_of_instance, alone, entry_low, entry_at_back}
+use Rattle.dps_faithful.proofs.KidValues.{entry_low, entry_at_back}
+use Rattle.dps_faithful.proofs.Leaves.{leaf_of_instance, alone}
 use Rattle.dps_faithful.proofs.Instances.{agrees_with_kid}
 
 pub ground_back : (m : ℕ) (z : ℕ → Tree) (know : Knowledge) (l : ℕ) (t : Tree) → IsGroundUpTo NoRigidName m (know_under z know) l t → IsGroundUpTo NoRigidName m know l t
@@ -176,6 +177,9 @@ module _ (problem : Problem) (node : Node) (sound : IsSound problem node) (c : S
       };
     }
 
+    pub agrees_whole : AgreesWith node whole kid t
+    agrees_whole = agrees_with_kid problem node sound c ask solution found kid applies whole t gives low solves.choice solves_node.choice
+
     module _ (over : (w l : ℕ) → level_of (variables_of kid) w ≡ Some l → IsTreeOver problem.signature (t w)) where
       over_leaf : (x l : ℕ) → level_of (variables_of node) x ≡ Some l → (z : Leaf) → StandsIn z (put x) → IsLeafOver problem.signature z → IsTreeOver problem.signature (variables_to t z)
       over_leaf x l e (public n) h k = k
@@ -197,7 +201,7 @@ module _ (problem : Problem) (node : Node) (sound : IsSound problem node) (c : S
         s = whole;
         solves = solves_over;
         gives = gives;
-        agrees = agrees_with_kid problem node sound c ask solution found kid applies whole t gives low solves.choice solves_node.choice;
+        agrees = agrees_whole;
       }
 
 pub first_comes_from : (problem : Problem) (node first second : Node) (c : SymbolicConfig) (ask : Ask) (solution : GeneralSolution) → IsSound problem node

@@ -1,12 +1,11 @@
 -- The first kid of a split has the word and the instances of the node.
-use Rattle.std.proofs.Common.{◌≡◌, ℕ, zero, suc, ◌+◌, ◌<◌, ◌≤◌, ◌^◌, List, [], ◌∷◌, map, length, refl, sym, ◌∙◌, ap, subst, inl, inr, arith, Option, Some, None}
-use Rattle.std.specs.Prelude.{◌⊎◌, ◌≢◌, ◌↔◌, Contains, All, slice_get, filter_map}
+use Rattle.std.proofs.Common.{◌≡◌, ℕ, suc, ◌+◌, ◌<◌, ◌≤◌, ◌^◌, List, ◌∷◌, map, length, refl, sym, ◌∙◌, ap, subst, inl, inr, arith, Option, Some, None}
+use Rattle.std.specs.Prelude.{◌≢◌, Contains, All, slice_get, filter_map}
 use Rattle.std.specs.List.{AllZip, cons_option}
 use Rattle.std.proofs.lemmas.List.{length-map, length-append}
 use Rattle.std.specs.Option.{option_map}
 use Rattle.std.proofs.lemmas.List.Elements.{All-contains}
 use Rattle.std.proofs.lemmas.Option.{slice_get_within}
-use Rattle.dps_branch.specs.declared.Side.{Side}
 use Rattle.dps_terms.specs.Tree.{Leaf, public, private, var, ax, entry, rigid, Tree, leaf, StandsIn}
 use Rattle.dps_terms.specs.Replace.{replace, substitute, variables_to, put_entries}
 use Rattle.dps_terms.specs.Kinds.{IsNoVariable, NoRigidName}
@@ -16,33 +15,32 @@ use Rattle.dps_terms.proofs.Building.{leaf_meets}
 use Rattle.dps_process.specs.Process.{Process, replace_in}
 use Rattle.dps_process.specs.LawsOfReplacement.{IsFreshFor}
 use Rattle.dps_process.specs.Problem.{Problem}
-use Rattle.dps_process.specs.Steps.{Config, Label, inputs, outputs, overhears}
+use Rattle.dps_process.specs.Steps.{Label, inputs, outputs, overhears}
 use Rattle.dps_process.proofs.ReplacementsInTurn.{replacements_in_turn}
 use Rattle.dps_unify.specs.Order.{level_of}
-use Rattle.dps_know.specs.Know.{Knowledge, entry_at, entry_under, know_under, compositions, recipe_of}
+use Rattle.dps_know.specs.Know.{entry_under, know_under, recipe_of}
 use Rattle.dps_know.specs.declared.know.Entry.{Entry}
-use Rattle.dps_solver.specs.Levels.{IsGroundUpTo}
 use Rattle.dps_solver.specs.Scene.{Ask}
-use Rattle.dps_solver.specs.Solutions.{valued, IsValuation, IsChoice, IsSolution}
+use Rattle.dps_solver.specs.Solutions.{valued, IsValuation, IsChoice}
 use Rattle.dps_solver.specs.Search.{GeneralSolution}
-use Rattle.dps_symeval.proofs.Listed.{contains_none, contains_first, contains_later, contains_cases, from_mapped}
+use Rattle.dps_symeval.proofs.Listed.{contains_none, contains_first, contains_later, contains_cases}
 use Rattle.dps_directions.specs.Shapes.{IsListedFor}
 use Rattle.dps_directions.specs.Values.{HaveOlderValues, AreTreesOver}
 use Rattle.dps_directions.proofs.Beginning.{levels_cases, some_level}
 use Rattle.dps_directions.proofs.Valuations.{term_commutes, valuation_commutes, valuations_are_one}
 use Rattle.dps_node.specs.Node.{SymbolicConfig, Node, label_tree, label_trees, label_under, variables_of, system_of, scene_of}
 use Rattle.dps_node.specs.Splits.{new_level, new_levels, binding, IsConfigUnder, Applies}
-use Rattle.dps_node.specs.Meaning.{recipe_under, word, IsInstance, AgreesWith}
+use Rattle.dps_node.specs.Meaning.{recipe_under, word, AgreesWith}
 use Rattle.dps_node.specs.Invariant.{IsOfNode, IsNodeTree, IsMessageLeaf, IsNodeMessage, IsNodePart, IsEntryRecipeLeaf, IsSound}
 use Rattle.dps_faithful.specs.Laws.{HasLowNumbers}
 use Rattle.dps_faithful.proofs.Lists.{placed}
 use Rattle.dps_faithful.proofs.Levels.{level_is_listed, number_below}
-use Rattle.dps_faithful.proofs.Validity.{config_under}
 use Rattle.dps_faithful.proofs.Bindings.{news, first, renumbered, not_of_node, counted_cases}
 use Rattle.dps_faithful.proofs.Kid.{label_known}
 use Rattle.dps_faithful.proofs.Solved.{map_both, tree_known, recorded_known, same_tree}
-use Rattle.dps_faithful.proofs.Processes.{Agree, replace_in_agrees, each_binder}
-use Rattle.dps_faithful.proofs.KidValues.{alone, value_known, have_older}
+use Rattle.dps_faithful.proofs.Processes.{replace_in_agrees, each_binder}
+use Rattle.dps_faithful.proofs.KidValues.{value_known, have_older}
+use Rattle.dps_faithful.proofs.Leaves.{alone}
 
 -- pairs of two lists
 pub zip_left : {X Y : Type 0} (R : X → Y → Type 0) (xs : List X) (ys : List Y) (y : Y) → AllZip R xs ys → Contains ys y → (x : X) × Contains xs x × R x y

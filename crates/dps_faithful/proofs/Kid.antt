@@ -1,11 +1,11 @@
 -- The first kid of a split: its labels, and the levels of its variables.
-use Rattle.std.proofs.Common.{◌≡◌, ℕ, zero, suc, ◌+◌, ◌<◌, ◌≤◌, List, [], ◌∷◌, ◌++◌, map, length, refl, sym, ◌∙◌, ap, subst, inl, inr, arith, Bool, true, false, Option, Some, None}
-use Rattle.std.specs.Prelude.{◌⊎◌, Contains, Any, slice_get, filter, filter_map, min}
+use Rattle.std.proofs.Common.{◌≡◌, ℕ, ◌+◌, ◌≤◌, List, ◌∷◌, map, length, refl, sym, ◌∙◌, ap, subst, inl, inr, arith, Some, None}
+use Rattle.std.specs.Prelude.{Contains, slice_get, filter, filter_map, min}
 use Rattle.std.specs.Option.{option_map}
 use Rattle.std.proofs.lemmas.Bool.{cases_lt, eqb-true}
 use Rattle.std.proofs.lemmas.Option.{slice_get-map}
 use Rattle.std.proofs.lemmas.Map.Views.{Contains-from_any}
-use Rattle.dps_terms.specs.Tree.{Leaf, var, Tree, leaf, StandsIn, IsSubterm, itself}
+use Rattle.dps_terms.specs.Tree.{var, Tree, StandsIn, IsSubterm, itself}
 use Rattle.dps_terms.specs.Replace.{substitute, variables_to}
 use Rattle.dps_terms.specs.Variables.{occurrences}
 use Rattle.dps_terms.specs.Kinds.{AnySymbol, NoRigidName}
@@ -30,7 +30,7 @@ use Rattle.dps_node.specs.Invariant.{IsSound}
 use Rattle.dps_faithful.proofs.Lists.{among_true, in_front, behind}
 use Rattle.dps_faithful.proofs.Levels.{occurrence_stands, level_is_listed, listed_level, is_labelled, level_out, level_in, same_level}
 use Rattle.dps_faithful.proofs.Validity.{label_tree_is}
-use Rattle.dps_faithful.proofs.Bindings.{news, first, renumbered, IsOld, IsRenumbered, in_new_binding}
+use Rattle.dps_faithful.proofs.Bindings.{news, renumbered, IsOld, IsRenumbered, in_new_binding}
 
 -- the trees of labels that are replaced
 pub trees_under : (f : Tree → Tree) (ls : List Label) → filter_map label_tree (map (label_under f) ls) ≡ map f (filter_map label_tree ls)

@@ -1,13 +1,12 @@
 -- The values of entries in the first kid of a split.
-use Rattle.std.proofs.Common.{◌≡◌, ℕ, zero, suc, ◌+◌, ◌<◌, ◌≤◌, List, [], ◌∷◌, map, length, refl, sym, ◌∙◌, ap, subst, inl, inr, arith, Option, Some, None}
-use Rattle.std.specs.Prelude.{◌⊎◌, Contains, slice_get, unwrap_or}
+use Rattle.std.proofs.Common.{◌≡◌, ℕ, zero, suc, ◌+◌, ◌<◌, ◌≤◌, List, length, refl, sym, ◌∙◌, ap, subst, inl, inr, arith, Option, Some, None}
+use Rattle.std.specs.Prelude.{Contains, slice_get, unwrap_or}
 use Rattle.std.specs.Option.{option_map}
 use Rattle.std.proofs.lemmas.List.{length-map}
 use Rattle.std.proofs.lemmas.List.Elements.{All-contains}
 use Rattle.std.proofs.lemmas.Option.{slice_get-map}
-use Rattle.dps_terms.specs.declared.Sym.{Sym}
-use Rattle.dps_terms.specs.Tree.{Leaf, public, private, var, ax, entry, rigid, Tree, Trees, leaf, app, none, more, StandsIn, IsAmong, itself, below, in_first, in_rest}
-use Rattle.dps_terms.specs.Replace.{replace, replace_all, substitute, variables_to, entries_to, put_entries, numbered}
+use Rattle.dps_terms.specs.Tree.{Leaf, public, private, var, ax, entry, rigid, Tree, leaf, StandsIn}
+use Rattle.dps_terms.specs.Replace.{substitute, variables_to, entries_to, numbered}
 use Rattle.dps_terms.specs.Kinds.{AnySymbol, NoRigidName}
 use Rattle.dps_terms.proofs.Building.{leaf_meets}
 use Rattle.dps_process.specs.Problem.{Problem}
@@ -25,34 +24,11 @@ use Rattle.dps_directions.proofs.Invariant.{IsBuiltLeaf}
 use Rattle.dps_directions.proofs.Outcomes.{binding_at}
 use Rattle.dps_directions.proofs.Directed.{outcome_of}
 use Rattle.dps_node.specs.Node.{SymbolicConfig, Node, variables_of, scene_of}
-use Rattle.dps_node.specs.Numbering.{counted_as, as_variable}
 use Rattle.dps_node.specs.Splits.{binding, IsConfigUnder, Applies}
 use Rattle.dps_node.specs.Invariant.{IsSound}
 use Rattle.dps_faithful.proofs.Bindings.{news, first, renumbered, counted_cases}
+use Rattle.dps_faithful.proofs.Leaves.{leaf_of_instance, alone}
 use Rattle.dps_faithful.proofs.Kid.{kid_level}
-
--- where a leaf of an instance comes from
-mutual
-  pub leaf_of_instance : (f : Leaf → Tree) (l : Leaf) (t : Tree) → StandsIn l (replace f t) → (z : Leaf) × StandsIn z t × StandsIn l (f z)
-  leaf_of_instance f l (leaf z) h = (z, itself, h)
-  leaf_of_instance f l (app g ts) h = let d = leaf_among f l ts (inside h) in (d.0, below d.1, d.2)
-    where
-      inside : {g : Sym} {us : Trees} → StandsIn l (app g us) → IsAmong (leaf l) us
-      inside (below k) = k
-
-  leaf_among : (f : Leaf → Tree) (l : Leaf) (ts : Trees) → IsAmong (leaf l) (replace_all f ts) → (z : Leaf) × IsAmong (leaf z) ts × StandsIn l (f z)
-  leaf_among f l none h = elim h [ ]
-  leaf_among f l (more t ts) h = elim (parted h) [
-    | inl k ↦ let d = leaf_of_instance f l t k in (d.0, in_first d.1, d.2)
-    | inr k ↦ let d = leaf_among f l ts k in (d.0, in_rest d.1, d.2)
-  ]
-    where
-      parted : {u : Tree} {us : Trees} → IsAmong (leaf l) (more u us) → StandsIn l u ⊎ IsAmong (leaf l) us
-      parted (in_first k) = inl k
-      parted (in_rest k) = inr k
-
-pub alone : (l k : Leaf) → StandsIn l (leaf k) → l ≡ k
-alone l k itself = refl
 
 -- the entry that became this one
 entry_back : (z : ℕ → Tree) (o : Option Entry) (e : Entry) → option_map (entry_under z) o ≡ Some e → (d : Entry) × (o ≡ Some d) × (e ≡ entry_under z d)
@@ -63,7 +39,7 @@ pub entry_at_back : (z : ℕ → Tree) (know : Knowledge) (i : ℕ) (e : Entry) 
 entry_at_back z know zero e h = cc
 entry_at_back z know (suc k) e h = entry_back z (slice_get know.entries k) e (sym (slice_get-map (entry_under z) know.entries k) ∙ h)
 
-value_back : (z : ℕ → Tree) (o : Option Tree) (v : Tree) → option_map (substitute z) o ≡ Some v → (u : Tree) × (o ≡ Some u) × (v ≡ substitute z u)
+pub value_back : (z : ℕ → Tree) (o : Option Tree) (v : Tree) → option_map (substitute z) o ≡ Some v → (u : Tree) × (o ≡ Some u) × (v ≡ substitute z u)
 value_back z None v h = cc
 value_back z (Some u) v h = (u, refl, (let q : v ≡ substitute z u = cc in q))
 

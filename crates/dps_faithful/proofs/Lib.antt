@@ -4,6 +4,7 @@ pub mod Deciding
 pub mod Bindings
 pub mod Kid
 pub mod Solved
+pub mod Leaves
 pub mod Processes
 pub mod KidValues
 pub mod Instances
@@ -11,6 +12,11 @@ pub mod Dividing
 pub mod Inheriting
 pub mod OtherKid
 pub mod InheritedFacts
+pub mod KidTrees
+pub mod KidParts
+pub mod KidOlder
+pub mod KidConsistent
+pub mod FirstKid
 pub mod Parting
 pub mod Recording
 pub mod Entering

@@ -1,17 +1,16 @@
 -- The second kid of a split keeps the invariant.
-use Rattle.std.proofs.Common.{◌≡◌, ℕ, zero, suc, ◌+◌, ◌<◌, ◌≤◌, List, [], ◌∷◌, ◌++◌, map, length, refl, sym, ◌∙◌, ap, subst, inl, inr, arith, cond, Bool, true, false, Option, Some, None}
-use Rattle.std.specs.Prelude.{◌⊎◌, ◌≢◌, Contains, All, IsSome, filter, not, slice_get, if◌then◌else◌}
-use Rattle.std.specs.List.{range_with_len}
+use Rattle.std.proofs.Common.{◌≡◌, ℕ, ◌+◌, ◌≤◌, List, ◌∷◌, ◌++◌, map, length, refl, sym, ◌∙◌, ap, subst, inl, inr, arith, cond, Option, Some, None}
+use Rattle.std.specs.Prelude.{◌⊎◌, Contains, All, IsSome, filter, not, if◌then◌else◌}
 use Rattle.std.proofs.lemmas.Bool.{cases_Bool, eqb-true}
 use Rattle.std.proofs.lemmas.List.{length-append, length-map}
 use Rattle.std.proofs.lemmas.Option.{slice_get_within}
 use Rattle.std.proofs.lemmas.List.Elements.{All-contains, All-weaker, All-push, Contains-append_left}
 use Rattle.std.proofs.lemmas.Map.Views.{Contains-from_any}
 use Rattle.dps_branch.specs.declared.Side.{Side}
-use Rattle.dps_terms.specs.Tree.{Leaf, public, private, var, ax, entry, rigid, Tree, Trees, leaf, app, StandsIn, itself}
+use Rattle.dps_terms.specs.Tree.{Leaf, public, private, var, ax, entry, rigid, Tree, leaf, app, StandsIn}
 use Rattle.dps_terms.specs.Replace.{substitute, variables_to}
 use Rattle.dps_terms.specs.Kinds.{IsBuiltOf, AnySymbol, NoRigidName}
-use Rattle.dps_terms.specs.Same.{same, same-true, same-self}
+use Rattle.dps_terms.specs.Same.{same, same-true}
 use Rattle.dps_signature.specs.Signature.{HasShape, HasArity, shapes}
 use Rattle.dps_signature.specs.declared.SymKind.TheVariants.{Constructor}
 use Rattle.dps_terms.proofs.Building.{leaf_meets, built_of, built_weaker, built_instance}
@@ -30,19 +29,19 @@ use Rattle.dps_solver.specs.Search.{GeneralSolution, IsPlain}
 use Rattle.dps_symeval.proofs.Listed.{mapped, from_mapped, filtered, from_filtered}
 use Rattle.dps_directions.specs.Valid.{IsComposed}
 use Rattle.dps_directions.specs.Shapes.{IsListedFor, ExcludesBindings}
-use Rattle.dps_directions.proofs.Beginning.{levels_cases, some_level}
+use Rattle.dps_directions.proofs.Beginning.{levels_cases}
 use Rattle.dps_directions.proofs.Directed.{excluded_bindings}
-use Rattle.dps_node.specs.Node.{SymbolicConfig, Node, label_trees, variables_of, system_of, scene_of}
+use Rattle.dps_node.specs.Node.{SymbolicConfig, Node, variables_of, system_of, scene_of}
 use Rattle.dps_node.specs.Numbering.{is_among}
 use Rattle.dps_node.specs.Splits.{binding, new_variables, new_level, IsConfigUnder, Applies, exclusion, excluded, IsSplit}
-use Rattle.dps_node.specs.Meaning.{IsTreeOver, IsSolutionOf, IsInstance, HasNormalTree, IsClosedInMeaning}
+use Rattle.dps_node.specs.Meaning.{IsTreeOver, IsSolutionOf, IsInstance, IsClosedInMeaning}
 use Rattle.dps_node.specs.Invariant.{messages_in, HasNoOwnName, IsNoOwnName, IsOfNode, IsNodeTree, IsMessageLeaf, IsNodeMessage, IsNodePart, IsEntryRecipeLeaf, IsPatternLeafOf, IsNodeDisequation, known_level, HasLevels, HasOlderParts, HasFacts, IsSound}
 use Rattle.dps_faithful.specs.Laws.{HasLowNumbers, BindsTrees}
 use Rattle.dps_faithful.proofs.Lists.{among_true, in_range, from_range}
 use Rattle.dps_faithful.proofs.Levels.{level_is_listed, listed_level, level_out}
 use Rattle.dps_solver.proofs.Each.{contains_at}
 use Rattle.dps_faithful.proofs.Bindings.{first, news, renumbered, counted_cases, is_new, comes_with, in_binding, in_new_binding}
-use Rattle.dps_faithful.proofs.Dividing.{same_variables, to_other, from_other}
+use Rattle.dps_faithful.proofs.Dividing.{same_variables, to_other}
 use Rattle.dps_faithful.proofs.Validity.{known_low}
 use Rattle.dps_faithful.proofs.Inheriting.{put_level, put_over}
 use Rattle.dps_node.proofs.Truth.{level_meets}
@@ -179,7 +178,7 @@ module _ (problem : Problem) (node : Node) (sound : IsSound problem node) (c : S
     | inr d ↦ subst HasNoOwnName (sym d.1) tt
   ]
 
-  put_own : (x : ℕ) → HasNoOwnName (put x)
+  pub put_own : (x : ℕ) → HasNoOwnName (put x)
   put_own x = built_instance IsNoOwnName AnySymbol IsNoOwnName (variables_to (renumbered node c ask solution found)) (solution.bindings x) (binds.own x) (λ z h k. own_leaf z k)
 
   barred_is : IsNodeDisequation problem.signature other barred

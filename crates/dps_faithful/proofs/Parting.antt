@@ -1,22 +1,20 @@
 -- A node with some of its configurations keeps the invariant, and a partition gives each instance to one kid.
-use Rattle.std.proofs.Common.{◌≡◌, ℕ, zero, suc, ◌+◌, List, [], ◌∷◌, ◌++◌, length, refl, sym, ◌∙◌, ap, subst, inl, inr, arith, Bool, true, false}
-use Rattle.std.specs.Prelude.{◌⊎◌, ◌↔◌, Contains, All}
+use Rattle.std.proofs.Common.{◌≡◌, ℕ, ◌+◌, List, ◌∷◌, ◌++◌, length, refl, sym, ap, subst, inl, inr, arith, Bool, true, false}
+use Rattle.std.specs.Prelude.{◌⊎◌, Contains, All}
 use Rattle.std.proofs.lemmas.List.Elements.{All-contains, All-weaker}
 use Rattle.dps_branch.specs.declared.Side.{Side}
 use Rattle.dps_terms.specs.Tree.{Tree}
-use Rattle.dps_theory.specs.Frames.{AreToldApart}
 use Rattle.dps_process.specs.Process.{Process}
 use Rattle.dps_process.specs.Problem.{Problem}
 use Rattle.dps_process.specs.Steps.{Config}
 use Rattle.dps_know.specs.Know.{compositions}
 use Rattle.dps_know.proofs.Listing.{all_of}
 use Rattle.dps_solver.specs.Scene.{Disequation}
-use Rattle.dps_solver.specs.Solutions.{IsSolution}
 use Rattle.dps_symeval.proofs.Listed.{contains_none, contains_first, contains_later, contains_cases}
 use Rattle.dps_directions.specs.Valid.{IsComposed}
-use Rattle.dps_node.specs.Node.{SymbolicConfig, Node, with_configs, system_of}
+use Rattle.dps_node.specs.Node.{SymbolicConfig, Node, with_configs}
 use Rattle.dps_node.specs.Splits.{IsConfigUnder, chosen, where_any, partition}
-use Rattle.dps_node.specs.Meaning.{IsSolutionOf, IsInstance, HasNormalTree, IsClosedInMeaning, SeparatesInstances, word}
+use Rattle.dps_node.specs.Meaning.{IsSolutionOf, IsInstance, IsClosedInMeaning, SeparatesInstances}
 use Rattle.dps_node.specs.Invariant.{messages_in, HasLevels, HasOlderParts, HasFacts, IsNodeTree, IsNodePart, IsNodeMessage, IsNodeDisequation, IsSound}
 use Rattle.dps_faithful.specs.Laws.{AreApart}
 

@@ -1,28 +1,27 @@
 -- A composition that is recorded leaves the solutions of a node as they are.
-use Rattle.std.proofs.Common.{◌≡◌, ℕ, zero, suc, ◌+◌, ◌-◌, ◌<◌, ◌≤◌, List, [], ◌∷◌, ◌++◌, map, length, refl, sym, ◌∙◌, ap, subst, inl, inr, arith, Bool, true, false, Option, Some, None}
-use Rattle.std.specs.Prelude.{◌⊎◌, ◌↔◌, ◌≢◌, Contains, All, slice_get, filter_map, if◌then◌else◌, ⊤}
+use Rattle.std.proofs.Common.{◌≡◌, ℕ, zero, suc, ◌+◌, ◌-◌, ◌<◌, ◌≤◌, List, ◌∷◌, ◌++◌, map, length, refl, sym, ◌∙◌, ap, subst, inl, inr, arith, Bool, false, Option, Some, None}
+use Rattle.std.specs.Prelude.{◌⊎◌, ◌↔◌, Contains, All, slice_get, filter_map, if◌then◌else◌, ⊤}
 use Rattle.std.specs.List.{cons_option}
 use Rattle.std.proofs.lemmas.Bool.{cases_lt}
 use Rattle.std.proofs.lemmas.List.{length-append, length-map}
 use Rattle.std.proofs.lemmas.Option.{slice_get_within}
 use Rattle.std.proofs.lemmas.List.Elements.{All-contains, All-weaker}
-use Rattle.dps_terms.specs.declared.PublicName.TheVariants.{Declared, At}
 use Rattle.dps_terms.specs.Tree.{Leaf, public, private, var, ax, entry, rigid, Tree, Trees, leaf, app, none, more, StandsIn, IsAmong, IsSubterm, itself, below, in_first, in_rest}
 use Rattle.dps_terms.specs.Replace.{substitute, variables_to, put_entries}
-use Rattle.dps_terms.specs.Kinds.{IsBuiltOf, AreBuiltOf, AnySymbol, IsClosed, IsNoVariable, IsKnowledgeLeaf, IsKnowledgeTree, NoRigidName}
+use Rattle.dps_terms.specs.Kinds.{IsBuiltOf, AreBuiltOf, AnySymbol, IsNoVariable, IsKnowledgeLeaf, NoRigidName}
 use Rattle.dps_terms.proofs.Building.{leaf_meets, built_weaker}
 use Rattle.dps_terms.proofs.Replacing.{keeps_subterms}
 use Rattle.dps_terms.proofs.Subterms.{nested}
 use Rattle.dps_process.specs.Problem.{Problem}
 use Rattle.dps_process.specs.Steps.{Label, inputs, outputs, overhears}
 use Rattle.dps_unify.specs.Order.{level_of}
-use Rattle.dps_know.specs.Know.{Knowledge, entry_at, compositions}
+use Rattle.dps_know.specs.Know.{entry_at, compositions}
 use Rattle.dps_know.specs.declared.know.Entry.{Entry}
 use Rattle.dps_know.proofs.Listing.{all_of}
 use Rattle.dps_solver.specs.Levels.{IsLeafUpTo, IsTreeUpTo, IsGroundUpTo, AnyRigidName}
 use Rattle.dps_solver.specs.Scene.{Disequation}
 use Rattle.dps_solver.specs.Solutions.{IsNormalUnder, IsSolution, valued, IsValuation}
-use Rattle.dps_symeval.proofs.Listed.{contains_none, contains_first, contains_later, contains_cases, mapped, from_mapped}
+use Rattle.dps_symeval.proofs.Listed.{contains_first, contains_later, contains_cases, mapped, from_mapped}
 use Rattle.dps_directions.specs.Fresh.{HasNamesBelow, AreNamesBelow, own_names}
 use Rattle.dps_directions.specs.Valid.{IsComposed}
 use Rattle.dps_directions.proofs.Directed.{own_names as own_names_solve}

@@ -1,6 +1,6 @@
 -- Solutions of the first kid of a split, and what they are in the node.
-use Rattle.std.proofs.Common.{◌≡◌, ℕ, zero, suc, ◌+◌, ◌<◌, ◌≤◌, List, [], ◌∷◌, map, length, refl, sym, ◌∙◌, ap, subst, inl, inr, arith, Option, Some, None}
-use Rattle.std.specs.Prelude.{◌⊎◌, ◌↔◌, Contains, All, slice_get, filter_map}
+use Rattle.std.proofs.Common.{◌≡◌, ℕ, zero, suc, ◌≤◌, List, ◌∷◌, map, length, refl, sym, ◌∙◌, ap, subst, inl, inr, Option, Some, None}
+use Rattle.std.specs.Prelude.{Contains, All, slice_get, filter_map}
 use Rattle.std.specs.Option.{option_map}
 use Rattle.std.specs.List.{cons_option}
 use Rattle.std.proofs.lemmas.List.Elements.{All-contains}
@@ -17,24 +17,23 @@ use Rattle.dps_terms.proofs.Subterms.{nested}
 use Rattle.dps_process.specs.Problem.{Problem}
 use Rattle.dps_unify.specs.Order.{level_of}
 use Rattle.dps_unify.proofs.Trees.{substitute_in_turn, substitute_agrees}
-use Rattle.dps_know.specs.Know.{Knowledge, entry_at, entry_under, know_under, compositions, IsNormal}
+use Rattle.dps_know.specs.Know.{Knowledge, entry_at, entry_under, know_under, compositions}
 use Rattle.dps_know.specs.declared.know.Entry.{Entry}
 use Rattle.dps_know.proofs.Listing.{in_head, in_tail, all_of}
-use Rattle.dps_solver.specs.Levels.{IsEntryUpTo, IsLeafUpTo, IsTreeUpTo, IsGroundUpTo}
+use Rattle.dps_solver.specs.Levels.{IsLeafUpTo, IsTreeUpTo, IsGroundUpTo}
 use Rattle.dps_solver.specs.Scene.{Disequation, Ask}
-use Rattle.dps_solver.specs.Solutions.{IsMatched, IsMatchedUnder, IsNormalUnder, Respects, IsChoice, IsSolution}
+use Rattle.dps_solver.specs.Solutions.{IsMatched, IsMatchedUnder, IsNormalUnder, IsSolution}
 use Rattle.dps_solver.specs.Search.{GeneralSolution}
 use Rattle.dps_symeval.proofs.Listed.{from_mapped}
 use Rattle.dps_directions.specs.Shapes.{IsListedFor}
 use Rattle.dps_directions.specs.Valid.{IsComposed}
-use Rattle.dps_directions.proofs.Valuations.{ground_above}
 use Rattle.dps_node.specs.Node.{SymbolicConfig, Node, label_trees, variables_of, system_of, scene_of}
 use Rattle.dps_node.specs.Splits.{binding, disequation_under, Applies}
 use Rattle.dps_node.specs.Meaning.{IsTreeOver, IsSolutionOf}
-use Rattle.dps_node.specs.Invariant.{IsNodeTree, IsPatternLeafOf, IsNodeDisequation, HasNoOwnName, IsSound}
-use Rattle.dps_faithful.proofs.Validity.{label_tree_is, disequation_at}
+use Rattle.dps_node.specs.Invariant.{IsNodeTree, IsPatternLeafOf, HasNoOwnName, IsSound}
+use Rattle.dps_faithful.proofs.Validity.{disequation_at}
 use Rattle.dps_faithful.proofs.Bindings.{free_stays}
-use Rattle.dps_faithful.proofs.Kid.{bound, label_known, from_kid_label, kid_labels, lowest, kid_none}
+use Rattle.dps_faithful.proofs.Kid.{label_known, from_kid_label, lowest, kid_none}
 
 abbrev IsPair : Tree → Tree → Tree → Tree → Type 0
 IsPair t u v w = let p : Tree × Tree = (t, u) in let q : Tree × Tree = (v, w) in p ≡ q

@@ -1,9 +1,9 @@
 -- The scenes of a node that keeps the invariant are valid.
-use Rattle.std.proofs.Common.{◌≡◌, ℕ, zero, suc, ◌+◌, ◌-◌, ◌<◌, ◌≤◌, ◌^◌, List, [], ◌∷◌, ◌++◌, map, length, refl, sym, ◌∙◌, ap, subst, inl, inr, arith, Option, Some, None}
-use Rattle.std.specs.Prelude.{◌⊎◌, Contains, All, Any, IsSome, true, false, if◌then◌else◌, slice_get, filter_map}
+use Rattle.std.proofs.Common.{◌≡◌, ℕ, suc, ◌+◌, ◌-◌, ◌<◌, ◌≤◌, ◌^◌, List, ◌∷◌, ◌++◌, map, length, refl, sym, ap, subst, inl, inr, arith, Option, Some, None}
+use Rattle.std.specs.Prelude.{Contains, All, true, false, if◌then◌else◌, filter_map}
 use Rattle.std.specs.List.{flat_map}
-use Rattle.std.proofs.lemmas.List.Elements.{All-nil, All-cons, All-contains, All-append, All-weaker, All-map}
-use Rattle.dps_terms.specs.Tree.{Leaf, public, private, var, ax, entry, rigid, Tree, leaf, StandsIn}
+use Rattle.std.proofs.lemmas.List.Elements.{All-contains, All-append, All-weaker, All-map}
+use Rattle.dps_terms.specs.Tree.{Leaf, public, private, var, ax, entry, rigid, Tree}
 use Rattle.dps_terms.specs.Replace.{substitute, variables_to}
 use Rattle.dps_terms.specs.Variables.{occurrences}
 use Rattle.dps_terms.specs.Kinds.{IsBuiltOf, AnySymbol, NoRigidName}
@@ -14,23 +14,23 @@ use Rattle.dps_process.specs.Process.{replace_in}
 use Rattle.dps_process.specs.Problem.{Problem}
 use Rattle.dps_process.specs.Steps.{Label, inputs, outputs, overhears}
 use Rattle.dps_unify.specs.Order.{level_of}
-use Rattle.dps_know.specs.Know.{entry_at, compositions}
+use Rattle.dps_know.specs.Know.{compositions}
 use Rattle.dps_know.specs.declared.know.Entry.{Entry}
 use Rattle.dps_know.proofs.Listing.{all_of}
-use Rattle.dps_solver.specs.Levels.{IsLeafUpTo, IsTreeUpTo, IsGroundUpTo, AnyRigidName}
+use Rattle.dps_solver.specs.Levels.{IsLeafUpTo, IsTreeUpTo, AnyRigidName}
 use Rattle.dps_solver.specs.Scene.{Disequation}
 use Rattle.dps_solver.specs.Solutions.{IsSolution, valued, IsValuation}
 use Rattle.dps_solver.specs.Search.{entry_numbers, disequation_numbers, system_numbers}
-use Rattle.dps_symeval.proofs.Listed.{from_mapped, from_joined, contains_cases}
+use Rattle.dps_symeval.proofs.Listed.{from_joined, contains_cases}
 use Rattle.dps_directions.specs.Valid.{AreUnique, IsValueLeaf, IsPatternLeaf, IsComposed, IsValid}
 use Rattle.dps_directions.proofs.Valuations.{tree_above, ground_above}
 use Rattle.dps_node.specs.Node.{SymbolicConfig, Node, label_trees, variables_of, system_of, scene_of}
 use Rattle.dps_node.specs.Splits.{IsConfigUnder}
 use Rattle.dps_node.specs.Meaning.{IsTreeOver}
-use Rattle.dps_node.specs.Invariant.{known_level, messages_in, IsOfNode, HasNoOwnName, IsNodeTree, IsMessageLeaf, IsNodeMessage, IsEntryRecipeLeaf, IsPatternLeafOf, IsNodeDisequation, HasFacts, IsSound}
+use Rattle.dps_node.specs.Invariant.{known_level, messages_in, HasNoOwnName, IsNodeTree, IsMessageLeaf, IsNodeMessage, IsEntryRecipeLeaf, IsPatternLeafOf, IsNodeDisequation, IsSound}
 use Rattle.dps_node.proofs.Truth.{level_meets, is_before_new}
 use Rattle.dps_faithful.specs.Laws.{HasLowNumbers}
-use Rattle.dps_faithful.proofs.Levels.{occurrence_stands, level_is_listed, is_labelled, each_once_numbered, number_below}
+use Rattle.dps_faithful.proofs.Levels.{occurrence_stands, is_labelled, each_once_numbered, number_below}
 use Rattle.dps_faithful.proofs.Lists.{placed}
 
 -- what a configuration becomes under z, where g lists the entries' values

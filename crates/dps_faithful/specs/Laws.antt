@@ -1,5 +1,5 @@
 -- The laws, each over all problems and nodes.
-use Rattle.std.specs.Prelude.{◌≡◌, ◌↔◌, ◌<◌, ℕ, suc, ◌^◌, Bool, true, false, List, [], ◌∷◌, Some, None, length, slice_get, Contains}
+use Rattle.std.specs.Prelude.{◌≡◌, ◌↔◌, ◌<◌, ℕ, suc, ◌^◌, Bool, true, false, List, ◌∷◌, Some, None, length, slice_get, Contains}
 use Rattle.dps_branch.specs.declared.Side.{Side}
 use Rattle.dps_terms.specs.Tree.{rigid, Tree, StandsIn}
 use Rattle.dps_terms.specs.Replace.{substitute, put_entries}
@@ -84,6 +84,14 @@ FirstKidsInheritMeaning =
     → IsSound problem node → IsListedIn node solution → BindsTrees problem.signature solution
     → IsSplit node solution.bindings (first ∷ second ∷ []) → HasLowNumbers first
     → HasMeaning problem first
+
+-- The first kid of a split keeps the invariant.
+abbrev pub FirstKidsKeepInvariant : Type 0
+FirstKidsKeepInvariant =
+    (problem : Problem) (node first second : Node) (solution : GeneralSolution)
+    → IsSound problem node → IsListedIn node solution → BindsTrees problem.signature solution
+    → IsSplit node solution.bindings (first ∷ second ∷ []) → HasLowNumbers first
+    → IsSound problem first
 
 -- The second kid of a split keeps the invariant.
 abbrev pub SecondKidsKeepInvariant : Type 0

@@ -1,6 +1,7 @@
 //! The laws of the tree's nodes. Each function does nothing: its contract is the law.
 ghost use Rattle.dps_faithful.specs.Laws.{ScenesAreValid, SplitsGiveToOne, PartitionsKeepInvariant, PartitionsPart};
-ghost use Rattle.dps_faithful.specs.Laws.{FirstKidsComeFromNodes, FirstKidsInheritMeaning, SecondKidsKeepInvariant};
+ghost use Rattle.dps_faithful.specs.Laws.{FirstKidsComeFromNodes, FirstKidsInheritMeaning};
+ghost use Rattle.dps_faithful.specs.Laws.{FirstKidsKeepInvariant, SecondKidsKeepInvariant};
 ghost use Rattle.dps_faithful.specs.Laws.{RecordingKeepsSolutions, NewEntriesKeepSolutions, HandlesKeepSolutions};
 
 /// The scenes of a node that keeps the invariant are valid.
@@ -21,6 +22,11 @@ pub fn first_kids_come_from_nodes()
 /// What the invariant says of what configurations become passes to the first kid of a split.
 pub fn first_kids_inherit_meaning()
     ensures { FirstKidsInheritMeaning }
+{}
+
+/// The first kid of a split keeps the invariant.
+pub fn first_kids_keep_invariant()
+    ensures { FirstKidsKeepInvariant }
 {}
 
 /// The second kid of a split keeps the invariant.
