@@ -1,5 +1,5 @@
 -- The first kid of a split keeps the invariant.
-use Rattle.std.proofs.Common.{◌≡◌, ◌∷◌, sym, ◌∙◌, subst, false}
+use Rattle.std.proofs.Common.{◌≡◌, [], ◌∷◌, sym, ◌∙◌, subst, false}
 use Rattle.std.proofs.lemmas.List.Elements.{All-contains}
 use Rattle.dps_terms.specs.Kinds.{NoRigidName}
 use Rattle.dps_process.specs.Problem.{Problem}

@@ -1,5 +1,5 @@
 -- The first kid of a split: its labels, and the levels of its variables.
-use Rattle.std.proofs.Common.{◌≡◌, ℕ, ◌+◌, ◌≤◌, List, ◌∷◌, map, length, refl, sym, ◌∙◌, ap, subst, inl, inr, arith, Some, None}
+use Rattle.std.proofs.Common.{◌≡◌, ℕ, ◌+◌, ◌≤◌, List, [], ◌∷◌, map, length, refl, sym, ◌∙◌, ap, subst, inl, inr, arith, Some, None}
 use Rattle.std.specs.Prelude.{Contains, slice_get, filter, filter_map, min}
 use Rattle.std.specs.Option.{option_map}
 use Rattle.std.proofs.lemmas.Bool.{cases_lt, eqb-true}

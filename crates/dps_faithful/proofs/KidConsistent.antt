@@ -1,5 +1,5 @@
 -- The first kid of a split is consistent.
-use Rattle.std.proofs.Common.{◌≡◌, ℕ, ◌+◌, ◌-◌, ◌<◌, ◌≤◌, List, map, length, refl, sym, ◌∙◌, ap, subst, inl, inr, arith, cond, Option, Some, None}
+use Rattle.std.proofs.Common.{◌≡◌, ℕ, ◌+◌, ◌-◌, ◌<◌, ◌≤◌, List, [], map, length, refl, sym, ◌∙◌, ap, subst, inl, inr, arith, cond, Option, Some, None}
 use Rattle.std.specs.Prelude.{◌⊎◌, Contains, All, slice_get, unwrap_or, if◌then◌else◌}
 use Rattle.std.proofs.lemmas.Bool.{cases_Bool, cases_lt, eqb-true}
 use Rattle.std.proofs.lemmas.List.Elements.{All-contains}

@@ -1,5 +1,5 @@
 -- The variables of a node: their numbers, levels and places.
-use Rattle.std.proofs.Common.{◌≡◌, ℕ, suc, ◌+◌, ◌<◌, ◌≤◌, List, ◌∷◌, length, sym, ◌∙◌, ap, subst, inl, inr, arith, cond, nat_eq, Some, AllPairs}
+use Rattle.std.proofs.Common.{◌≡◌, ℕ, suc, ◌+◌, ◌<◌, ◌≤◌, List, [], ◌∷◌, length, sym, ◌∙◌, ap, subst, inl, inr, arith, cond, nat_eq, Some, AllPairs}
 use Rattle.std.specs.Prelude.{◌≢◌, Contains, All, Any, slice_get, zero}
 use Rattle.std.specs.List.{flat_map}
 use Rattle.std.proofs.lemmas.Bool.{cases_Bool, eqb-true, eq-eqb}

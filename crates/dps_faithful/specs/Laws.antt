@@ -1,5 +1,5 @@
 -- The laws, each over all problems and nodes.
-use Rattle.std.specs.Prelude.{◌≡◌, ◌↔◌, ◌<◌, ℕ, suc, ◌^◌, Bool, true, false, List, ◌∷◌, Some, None, length, slice_get, Contains}
+use Rattle.std.specs.Prelude.{◌≡◌, ◌↔◌, ◌<◌, ℕ, suc, ◌^◌, Bool, true, false, List, [], ◌∷◌, Some, None, length, slice_get, Contains}
 use Rattle.dps_branch.specs.declared.Side.{Side}
 use Rattle.dps_terms.specs.Tree.{rigid, Tree, StandsIn}
 use Rattle.dps_terms.specs.Replace.{substitute, put_entries}
