@@ -1,0 +1,37 @@
+-- What a label's line is made of.
+use Rattle.std.proofs.Common.{◌≡◌, ℕ, ◌+◌, ◌<◌, ◌≤◌, ◌^◌, List, [], ◌∷◌, ◌++◌, Option, Some, None, refl, ap, sym, subst, ◌∙◌, arith}
+use Rattle.std.specs.Fmt.{decimal}
+use Rattle.dps_terms.specs.Tree.{Tree}
+use Rattle.dps_signature.specs.Signature.{Signature, IsPublic}
+use Rattle.dps_signature.specs.Text.{name_text, term_text}
+use Rattle.dps_trace.specs.Cut.{IsCut, IsWithout}
+use Rattle.dps_signature.specs.Spelled.{IsSpelled}
+use Rattle.dps_trace.specs.Written.{IsWrittenLeaf, IsWrittenSymbol, IsWrittenRecipe}
+use Rattle.dps_trace.specs.Scanning.{public_named, handle_read, handle_of, recipe_read}
+use Rattle.dps_trace.proofs.Cuts.{one_cut, stands_there, unsigned_without}
+use Rattle.dps_trace.proofs.Digits.{numeral-decimal}
+use Rattle.dps_trace.proofs.Scanned.{recipe_scanned}
+use Rattle.dps_trace.proofs.Spelling.{word_bytes}
+use Rattle.dps_trace.proofs.WordsRead.{name_is, identifier, public_read, in_range, all_read}
+
+-- a recipe is read from its text
+pub text_read : (S : Signature) (spelled : IsSpelled S) (r : Tree) → IsWrittenRecipe S r → recipe_read S (term_text S r) ≡ Some r
+text_read S spelled r h = recipe_scanned S (IsWrittenLeaf S) (IsWrittenSymbol S) (all_read S spelled) r h
+
+-- a handle is read from its text
+pub handle_is : (S : Signature) (spelled : IsSpelled S) (j : ℕ) → 1 ≤ j → j < 2 ^ 32 → handle_read (97 ∷ 120 ∷ decimal j) ≡ Some j
+handle_is S spelled j low high = ap handle_of (numeral-decimal j (omega arith)) ∙ in_range S spelled j low high
+
+name_without : (S : Signature) (spelled : IsSpelled S) (c : ℕ) → IsPublic S c → IsWithout 44 (name_text S c)
+name_without S spelled c h = subst (IsWithout 44) (sym (name_is S spelled c h)) (unsigned_without h.0 (word_bytes h.0 (identifier S spelled c h).word).0)
+
+-- the channel is what stands before the first comma
+pub channel_is :
+    (S : Signature) (spelled : IsSpelled S) (c : ℕ) (rest text front behind : List ℕ) → IsPublic S c → text ≡ name_text S c ++ (44 ∷ rest) → IsCut 44 text front behind
+    → (public_named S front ≡ Some c) × (behind ≡ rest)
+channel_is S spelled c rest text front behind h e cut =
+    let k = one_cut 44 front (name_text S c) behind rest cut.without (name_without S spelled c h) (sym cut.whole ∙ e) in
+    (ap (public_named S) (k.0 ∙ name_is S spelled c h) ∙ public_read S spelled c h, k.1)
+
+pub comma_there : (S : Signature) (c : ℕ) (rest text : List ℕ) → text ≡ name_text S c ++ (44 ∷ rest) → IsWithout 44 text → ⊥
+comma_there S c rest text e h = stands_there 44 (name_text S c) rest (subst (IsWithout 44) e h)

@@ -1,0 +1,12 @@
+pub mod Ascii
+pub mod Cuts
+pub mod Digits
+pub mod Fronts
+pub mod Handles
+pub mod Labels
+pub mod EachLine
+pub mod Backward
+pub mod Scanned
+pub mod Sound
+pub mod Spelling
+pub mod WordsRead
