@@ -11,7 +11,7 @@ use dps_trace::{behind, cut, numeral};
 use std::alloc::{AllocError, Global};
 
 /// What is said on the first line behind the word, which ends with a colon and a blank, and what comes behind the line.
-#[tactic(auto, using(crate::proofs::Fields::for_read_field))]
+#[tactic(auto, using(crate::proofs::FieldsRead::for_read_field))]
 pub(crate) fn read_field<'a>(bytes: &'a [u8], word: &[u8]) -> Option<(&'a [u8], &'a [u8])>
     ensures found { IfSome result (λ p. IsField word.now bytes.now p.0.now p.1.now) }
     ensures none { IfNone result ((value rest : List ℕ) → ¬ IsField word.now bytes.now value rest) }
@@ -23,7 +23,7 @@ pub(crate) fn read_field<'a>(bytes: &'a [u8], word: &[u8]) -> Option<(&'a [u8], 
 }
 
 /// The same where a number below 2^64 is said.
-#[tactic(auto, using(crate::proofs::Fields::for_read_number))]
+#[tactic(auto, using(crate::proofs::FieldsRead::for_read_number))]
 pub(crate) fn read_number<'a>(bytes: &'a [u8], word: &[u8]) -> Option<(u64, &'a [u8])>
     ensures { (n : ℕ) (rest : List ℕ) → n < 2 ^ 64 → bytes.now ≡ word.now ++ line (decimal n) rest → IsSomeAnd result (λ p. (p.0 ≡ n) × (p.1.now ≡ rest)) }
 {
@@ -37,7 +37,7 @@ pub(crate) fn read_number<'a>(bytes: &'a [u8], word: &[u8]) -> Option<(u64, &'a 
 }
 
 /// The same where a number below 2^32 is said.
-#[tactic(auto, using(crate::proofs::Fields::for_read_short))]
+#[tactic(auto, using(crate::proofs::FieldsRead::for_read_short))]
 pub(crate) fn read_short<'a>(bytes: &'a [u8], word: &[u8]) -> Option<(u32, &'a [u8])>
     ensures { (n : ℕ) (rest : List ℕ) → n < 2 ^ 32 → bytes.now ≡ word.now ++ line (decimal n) rest → IsSomeAnd result (λ p. (p.0 ≡ n) × (p.1.now ≡ rest)) }
 {
@@ -61,7 +61,7 @@ fn short_number(number: u64) -> Option<u32>
 }
 
 /// The number below 2^32 with these digits.
-#[tactic(auto, using(crate::proofs::Fields::for_short_numeral))]
+#[tactic(auto, using(crate::proofs::FieldsRead::for_short_numeral))]
 fn short_numeral(digits: &[u8]) -> Option<u32>
     ensures { (n : ℕ) → n < 2 ^ 32 → digits.now ≡ decimal n → result ≡ Some n }
 {
@@ -72,7 +72,7 @@ fn short_numeral(digits: &[u8]) -> Option<u32>
 }
 
 /// The line and the column that `at: LINE:COLUMN` names, and what comes behind.
-#[tactic(auto, using(crate::proofs::Fields::for_read_place))]
+#[tactic(auto, using(crate::proofs::FieldsRead::for_read_place))]
 pub(crate) fn read_place(bytes: &[u8]) -> Option<(u32, u32, &[u8])>
     ensures { (at column : ℕ) (rest : List ℕ) → at < 2 ^ 32 → column < 2 ^ 32 → bytes.now ≡ codes "at: " ++ line (place_text at column) rest
         → IsSomeAnd result (λ p. (p.0 ≡ at) × (p.1 ≡ column) × (p.2.now ≡ rest)) }

@@ -22,7 +22,7 @@ use std::alloc::{AllocError, Global};
 /// The outcome of which the bytes are the text, in either format. `None` exactly where they are no outcome's text.
 ///
 /// It takes time by the length of the bytes, and fails for want of memory alone.
-#[tactic(auto, using(crate::proofs::Reading::for_read_report))]
+#[tactic(auto, using(crate::proofs::ReportRead::for_read_report))]
 pub fn read_report(alloc: Global, bytes: &[u8]) -> Result<Option<Outcome>, AllocError>
     ensures found { IfOk result (λ found. IfSome found (λ outcome. IsReport outcome bytes.now)) }
     ensures only { (outcome : Outcome) → HasPath outcome → IsReport outcome bytes.now → IfOk result (λ found. found ≡ Some outcome) }
@@ -42,7 +42,7 @@ pub fn read_report(alloc: Global, bytes: &[u8]) -> Result<Option<Outcome>, Alloc
 }
 
 /// The format of the first line, and what comes behind.
-#[tactic(auto, using(crate::proofs::Reading::for_read_format))]
+#[tactic(auto, using(crate::proofs::ReportRead::for_read_format))]
 fn read_format(bytes: &[u8]) -> Option<(Format, &[u8])>
     ensures { (format : Format) (rest : List ℕ) → bytes.now ≡ line (first_line format) rest → IsSomeAnd result (λ p. (p.0 ≡ format) × (p.1.now ≡ rest)) }
 {
@@ -56,7 +56,7 @@ fn read_format(bytes: &[u8]) -> Option<(Format, &[u8])>
 }
 
 /// The outcome of which these may be the lines behind the first.
-#[tactic(auto, using(crate::proofs::Reading::for_outcome_like))]
+#[tactic(auto, using(crate::proofs::ReportRead::for_outcome_like))]
 fn outcome_like(
     alloc: Global,
     format: Format,
@@ -71,7 +71,7 @@ fn outcome_like(
 }
 
 /// The name of the result's line, and what comes behind.
-#[tactic(auto, using(crate::proofs::Reading::for_read_result))]
+#[tactic(auto, using(crate::proofs::ReportRead::for_read_result))]
 fn read_result(bytes: &[u8]) -> Option<(ResultName, &[u8])>
     ensures { (name : ResultName) (rest : List ℕ) → bytes.now ≡ codes "result: " ++ line (result_text name) rest → IsSomeAnd result (λ p. (p.0 ≡ name) × (p.1.now ≡ rest)) }
 {
@@ -108,7 +108,7 @@ fn result_like(
 }
 
 /// The model, where the format names it, and what comes behind.
-#[tactic(auto, using(crate::proofs::Reading::for_read_named))]
+#[tactic(auto, using(crate::proofs::ReportRead::for_read_named))]
 fn read_named(format: Format, bytes: &[u8]) -> Option<(Option<ModelName>, &[u8])>
     ensures names { IfSome result (λ p. Names format p.0) }
     ensures only { (model : Option ModelName) (rest : List ℕ) → Names format model → bytes.now ≡ if_named model rest → IsSomeAnd result (λ p. (p.0 ≡ model) × (p.1.now ≡ rest)) }
@@ -122,7 +122,7 @@ fn read_named(format: Format, bytes: &[u8]) -> Option<(Option<ModelName>, &[u8])
     }
 }
 
-#[tactic(auto, using(crate::proofs::Short::for_equivalent_like))]
+#[tactic(auto, using(crate::proofs::ShortRead::for_equivalent_like))]
 fn equivalent_like(format: Format, bytes: &[u8]) -> Option<Outcome>
     ensures { FindsResult format results.Equivalent bytes.now result }
 {
@@ -132,7 +132,7 @@ fn equivalent_like(format: Format, bytes: &[u8]) -> Option<Outcome>
     }
 }
 
-#[tactic(auto, using(crate::proofs::Short::for_stopped_like))]
+#[tactic(auto, using(crate::proofs::ShortRead::for_stopped_like))]
 fn stopped_like(format: Format, name: StopName, bytes: &[u8]) -> Option<Outcome>
     ensures { FindsResult format (results.Stopped name) bytes.now result }
 {
@@ -143,7 +143,7 @@ fn stopped_like(format: Format, name: StopName, bytes: &[u8]) -> Option<Outcome>
     }
 }
 
-#[tactic(auto, using(crate::proofs::Short::for_accepted_like))]
+#[tactic(auto, using(crate::proofs::ShortRead::for_accepted_like))]
 fn accepted_like(format: Format, bytes: &[u8]) -> Option<Outcome>
     ensures { FindsResult format results.TheoryAccepted bytes.now result }
 {
@@ -154,7 +154,7 @@ fn accepted_like(format: Format, bytes: &[u8]) -> Option<Outcome>
     }
 }
 
-#[tactic(auto, using(crate::proofs::Short::for_no_memory_like))]
+#[tactic(auto, using(crate::proofs::ShortRead::for_no_memory_like))]
 fn no_memory_like(format: Format, bytes: &[u8]) -> Option<Outcome>
     ensures { FindsResult format results.NoMemory bytes.now result }
 {
@@ -162,7 +162,7 @@ fn no_memory_like(format: Format, bytes: &[u8]) -> Option<Outcome>
     Some(Outcome::NoMemory)
 }
 
-#[tactic(auto, using(crate::proofs::Short::for_matched_like))]
+#[tactic(auto, using(crate::proofs::ShortRead::for_matched_like))]
 fn matched_like(format: Format, bytes: &[u8]) -> Option<Outcome>
     ensures { FindsResult format results.Matched bytes.now result }
 {
@@ -175,7 +175,7 @@ fn matched_like(format: Format, bytes: &[u8]) -> Option<Outcome>
     }
 }
 
-#[tactic(auto, using(crate::proofs::Short::for_no_run_like))]
+#[tactic(auto, using(crate::proofs::ShortRead::for_no_run_like))]
 fn no_run_like(format: Format, bytes: &[u8]) -> Option<Outcome>
     ensures { FindsResult format results.NoRun bytes.now result }
 {
@@ -188,7 +188,7 @@ fn no_run_like(format: Format, bytes: &[u8]) -> Option<Outcome>
     }
 }
 
-#[tactic(auto, using(crate::proofs::Long::for_spent_like))]
+#[tactic(auto, using(crate::proofs::LongRead::for_spent_like))]
 fn spent_like(
     alloc: Global,
     format: Format,
@@ -212,7 +212,7 @@ fn spent_like(
 }
 
 /// The trace's text is the rest of the report.
-#[tactic(auto, using(crate::proofs::Long::for_not_equivalent_like))]
+#[tactic(auto, using(crate::proofs::LongRead::for_not_equivalent_like))]
 fn not_equivalent_like(
     alloc: Global,
     format: Format,
@@ -236,7 +236,7 @@ fn not_equivalent_like(
 }
 
 /// The model that the trace's text names, where it is one of this format, and its last line is ended.
-#[tactic(auto, using(crate::proofs::Long::for_model_of_trace))]
+#[tactic(auto, using(crate::proofs::LongRead::for_model_of_trace))]
 fn model_of_trace(format: Format, trace: &[u8]) -> Option<Option<ModelName>>
     ensures found { IfSome result (λ model. Names format model × HasTraceLines model trace.now) }
     ensures only { (model : Option ModelName) → Names format model → HasTraceLines model trace.now → result ≡ Some model }
@@ -261,7 +261,7 @@ fn is_of_format(format: Format, model: Option<ModelName>) -> bool
 }
 
 /// Whether the last byte is a newline.
-#[tactic(auto, using(crate::proofs::Long::for_ends_line))]
+#[tactic(auto, using(crate::proofs::LongRead::for_ends_line))]
 fn ends_line(text: &[u8]) -> bool
     ensures { IsTrue result ↔ EndsLine text.now }
 {
@@ -271,7 +271,7 @@ fn ends_line(text: &[u8]) -> bool
     }
 }
 
-#[tactic(auto, using(crate::proofs::Long::for_refused_like))]
+#[tactic(auto, using(crate::proofs::LongRead::for_refused_like))]
 fn refused_like(
     alloc: Global,
     format: Format,
@@ -300,7 +300,7 @@ fn refused_like(
     }
 }
 
-#[tactic(auto, using(crate::proofs::Long::for_attack_like))]
+#[tactic(auto, using(crate::proofs::LongRead::for_attack_like))]
 fn attack_like(
     alloc: Global,
     format: Format,
@@ -321,7 +321,7 @@ fn attack_like(
 }
 
 /// The tests of an attack. Their number is not looked at: the text of the outcome will tell whether it is right.
-#[tactic(auto, using(crate::proofs::Tests::for_tests_like))]
+#[tactic(auto, using(crate::proofs::TestsRead::for_tests_like))]
 fn tests_like(
     alloc: Global,
     format: Format,
@@ -338,7 +338,7 @@ fn tests_like(
     }
 }
 
-#[tactic(auto, using(crate::proofs::Tests::for_read_tests))]
+#[tactic(auto, using(crate::proofs::TestsRead::for_read_tests))]
 fn read_tests(alloc: Global, bytes: &[u8]) -> Result<Option<Texts>, AllocError>
     ensures { IfOk result (FindsTests bytes.now) }
 {
@@ -370,7 +370,7 @@ fn read_test(alloc: Global, bytes: &[u8]) -> Result<Option<Text>, AllocError>
 }
 
 /// `value R` or `equal R S`.
-#[tactic(auto, using(crate::proofs::Tests::for_is_test))]
+#[tactic(auto, using(crate::proofs::TestsRead::for_is_test))]
 fn is_test(test: &[u8]) -> bool
     ensures { IsTrue result ↔ IsTest test.now }
 {
@@ -387,7 +387,7 @@ fn is_test(test: &[u8]) -> bool
 }
 
 /// Not empty, and without a blank and a newline.
-#[tactic(auto, using(crate::proofs::Tests::for_is_word))]
+#[tactic(auto, using(crate::proofs::TestsRead::for_is_word))]
 fn is_word(text: &[u8]) -> bool
     ensures { IsTrue result ↔ IsWord text.now }
 {

@@ -72,19 +72,19 @@ pub(crate) fn result_named(text: &[u8]) -> Option<ResultName>
 fn first_named(text: &[u8]) -> Option<ResultName>
     ensures { result ≡ first_named text.now }
 {
-    if text == b"equivalent" {
+    if text == b"equivalent".as_slice() {
         return Some(ResultName::Equivalent);
     }
-    if text == b"not equivalent" {
+    if text == b"not equivalent".as_slice() {
         return Some(ResultName::NotEquivalent);
     }
-    if text == b"spent" {
+    if text == b"spent".as_slice() {
         return Some(ResultName::Spent);
     }
-    if text == b"refused" {
+    if text == b"refused".as_slice() {
         return Some(ResultName::Refused);
     }
-    if text == b"theory accepted" {
+    if text == b"theory accepted".as_slice() {
         return Some(ResultName::TheoryAccepted);
     }
     None
@@ -93,16 +93,16 @@ fn first_named(text: &[u8]) -> Option<ResultName>
 fn last_named(text: &[u8]) -> Option<ResultName>
     ensures { result ≡ last_named text.now }
 {
-    if text == b"attack" {
+    if text == b"attack".as_slice() {
         return Some(ResultName::Attack);
     }
-    if text == b"matched" {
+    if text == b"matched".as_slice() {
         return Some(ResultName::Matched);
     }
-    if text == b"no run" {
+    if text == b"no run".as_slice() {
         return Some(ResultName::NoRun);
     }
-    if text == b"no memory" {
+    if text == b"no memory".as_slice() {
         return Some(ResultName::NoMemory);
     }
     None
@@ -111,16 +111,16 @@ fn last_named(text: &[u8]) -> Option<ResultName>
 fn stop_named(text: &[u8]) -> Option<StopName>
     ensures { result ≡ stop_named text.now }
 {
-    if text == b"too long" {
+    if text == b"too long".as_slice() {
         return Some(StopName::TooLong);
     }
-    if text == b"open fault" {
+    if text == b"open fault".as_slice() {
         return Some(StopName::OpenFault);
     }
-    if text == b"read fault" {
+    if text == b"read fault".as_slice() {
         return Some(StopName::ReadFault);
     }
-    if text == b"words refused" {
+    if text == b"words refused".as_slice() {
         return Some(StopName::WordsRefused);
     }
     None

@@ -13,4 +13,4 @@ pub mod WordsRead
 pub mod Unbroken
 pub mod Apart
 pub mod OneTrace
-pub mod Reading
+pub mod LinesRead

@@ -20,7 +20,7 @@ use std::alloc::Global;
 ///
 /// There are fewer than 2^32 - 1 newlines. `Fault` comes exactly where the bytes are no trace's text, with the first line that
 /// is wrong. `Memory` where memory was wanting.
-#[tactic(auto, using(crate::proofs::Reading::for_read_trace))]
+#[tactic(auto, using(crate::proofs::LinesRead::for_read_trace))]
 pub fn read_trace(
     alloc: Global,
     signature: &Signature,
@@ -53,7 +53,7 @@ pub fn read_trace(
 }
 
 /// The labels of the lines, of which the first has this number.
-#[tactic(auto, using(crate::proofs::Reading::for_read_labels))]
+#[tactic(auto, using(crate::proofs::LinesRead::for_read_labels))]
 fn read_labels(
     alloc: Global,
     signature: &Signature,
@@ -86,7 +86,7 @@ fn read_labels(
 }
 
 /// The label of the next line, which has this number and comes behind so many outputs, and what is behind that line.
-#[tactic(auto, using(crate::proofs::Reading::for_next_label))]
+#[tactic(auto, using(crate::proofs::LinesRead::for_next_label))]
 fn next_label<'a>(
     alloc: Global,
     signature: &Signature,

@@ -1,6 +1,6 @@
 use Rattle.std.proofs.Common.{length, map}
 use Rattle.dps_process.specs.Labels.{label_of}
-use Rattle.dps_trace.proofs.Reading.{AreRead}
+use Rattle.dps_trace.proofs.LinesRead.{AreRead}
 use Rattle.dps_trace.proofs.reading.read_labels.Given as goal
 
 abbrev pub invariant-lines : goal.invariant-lines
