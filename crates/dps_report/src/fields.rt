@@ -16,8 +16,11 @@ pub(crate) fn read_field<'a>(bytes: &'a [u8], word: &[u8]) -> Option<(&'a [u8], 
     ensures found { IfSome result (λ p. IsField word.now bytes.now p.0.now p.1.now) }
     ensures none { IfNone result ((value rest : List ℕ) → ¬ IsField word.now bytes.now value rest) }
 {
-    match behind(bytes, word) {
-        Some(rest) => cut(b'\n', rest),
+    let Some(rest) = behind(bytes, word) else {
+        return None;
+    };
+    match cut(b'\n', rest) {
+        Some((value, rest)) => Some((value, rest)),
         None => None,
     }
 }

@@ -211,7 +211,11 @@ pub(crate) fn text_in(
     ensures memory { IsErr result → NeedsMemory outcome.now }
 {
     match outcome {
-        Outcome::Equivalent { model } => Ok(ReportText::Short(named(format, ResultName::Equivalent, *model))),
+        Outcome::Equivalent { model } => Ok(ReportText::Short(named(
+            format,
+            ResultName::Equivalent,
+            *model,
+        ))),
         Outcome::NotEquivalent { node, trace, .. } => {
             let node = node.text(alloc)?;
             let head = first_line(format);

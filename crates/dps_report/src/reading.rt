@@ -57,11 +57,7 @@ fn read_format(bytes: &[u8]) -> Option<(Format, &[u8])>
 
 /// The outcome of which these may be the lines behind the first.
 #[tactic(auto, using(crate::proofs::ReportRead::for_outcome_like))]
-fn outcome_like(
-    alloc: Global,
-    format: Format,
-    bytes: &[u8],
-) -> Result<Option<Outcome>, AllocError>
+fn outcome_like(alloc: Global, format: Format, bytes: &[u8]) -> Result<Option<Outcome>, AllocError>
     ensures { IfOk result (FindsOutcome format bytes.now) }
 {
     let Some((name, rest)) = read_result(bytes) else {
@@ -189,11 +185,7 @@ fn no_run_like(format: Format, bytes: &[u8]) -> Option<Outcome>
 }
 
 #[tactic(auto, using(crate::proofs::LongRead::for_spent_like))]
-fn spent_like(
-    alloc: Global,
-    format: Format,
-    bytes: &[u8],
-) -> Result<Option<Outcome>, AllocError>
+fn spent_like(alloc: Global, format: Format, bytes: &[u8]) -> Result<Option<Outcome>, AllocError>
     ensures { IfOk result (FindsResult format results.Spent bytes.now) }
 {
     let Some((model, rest)) = read_named(format, bytes) else {
@@ -272,11 +264,7 @@ fn ends_line(text: &[u8]) -> bool
 }
 
 #[tactic(auto, using(crate::proofs::LongRead::for_refused_like))]
-fn refused_like(
-    alloc: Global,
-    format: Format,
-    bytes: &[u8],
-) -> Result<Option<Outcome>, AllocError>
+fn refused_like(alloc: Global, format: Format, bytes: &[u8]) -> Result<Option<Outcome>, AllocError>
     ensures { IfOk result (FindsResult format results.Refused bytes.now) }
 {
     let _format = format;
@@ -301,11 +289,7 @@ fn refused_like(
 }
 
 #[tactic(auto, using(crate::proofs::LongRead::for_attack_like))]
-fn attack_like(
-    alloc: Global,
-    format: Format,
-    bytes: &[u8],
-) -> Result<Option<Outcome>, AllocError>
+fn attack_like(alloc: Global, format: Format, bytes: &[u8]) -> Result<Option<Outcome>, AllocError>
     ensures { IfOk result (FindsResult format results.Attack bytes.now) }
 {
     let Some((model, rest)) = read_named(format, bytes) else {
@@ -322,11 +306,7 @@ fn attack_like(
 
 /// The tests of an attack. Their number is not looked at: the text of the outcome will tell whether it is right.
 #[tactic(auto, using(crate::proofs::TestsRead::for_tests_like))]
-fn tests_like(
-    alloc: Global,
-    format: Format,
-    bytes: &[u8],
-) -> Result<Option<Texts>, AllocError>
+fn tests_like(alloc: Global, format: Format, bytes: &[u8]) -> Result<Option<Texts>, AllocError>
     ensures { IfOk result (FindsListedTests format bytes.now) }
 {
     match format {

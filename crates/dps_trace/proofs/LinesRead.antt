@@ -1,5 +1,5 @@
 -- Reading the lines of labels, and a whole trace.
-use Rattle.std.proofs.Common.{◌≡◌, ◌≢◌, ◌⊎◌, inl, inr, ℕ, ◌+◌, ◌*◌, ◌<◌, ◌≤◌, ◌^◌, IsTrue, true, false, List, [], ◌∷◌, ◌++◌, Option, Some, None, Ok, Err, Result, refl, ap, sym, subst, ◌∙◌, length, map, arith, append_assoc, length-append}
+use Rattle.std.proofs.Common.{◌≡◌, ◌≢◌, ◌⊎◌, inl, inr, ℕ, ◌+◌, ◌-◌, ◌<◌, ◌≤◌, ◌^◌, IsTrue, true, false, List, [], ◌∷◌, ◌++◌, Option, Some, None, Ok, Err, Result, refl, ap, sym, subst, ◌∙◌, length, map, arith, append_assoc, length-append}
 use Rattle.std.specs.Prelude.{◌==◌, ◌↔◌, ⊤}
 use Rattle.std.proofs.lemmas.Bool.Decides.{nat_tests}
 use Rattle.std.proofs.lemmas.List.{append-nil}
@@ -37,10 +37,12 @@ pub no_label :
     (S : Signature) (spelled : IsSpelled S) (here outputs : ℕ) (lines text behind : List ℕ) → IsCut 10 lines text behind
     → ((label : Label) → IsWrittenLabel S label → text ≡ label_text S label → None ≡ Some label)
     → IsWrongNext S here outputs lines (Fault here kinds.Label)
-no_label S spelled here outputs lines text behind cut none =
-    (refl, λ label over b. 
+no_label S spelled here outputs lines text behind cut none = (
+  refl,
+  λ label over b.
       let same = one_cut 10 text (label_text S label) behind b.0 cut.without (label_unbroken S spelled label over) (sym cut.whole ∙ b.1) in
-      none-some label (none label over same.0))
+      none-some label (none label over same.0),
+)
 
 pub not_in_turn :
     (S : Signature) (here outputs : ℕ) (lines text behind : List ℕ) (label : Label) → IsCut 10 lines text behind → IsWrittenLabel S label → text ≡ label_text S label
@@ -89,7 +91,7 @@ one_more_output m (overhears c j) = omega arith
 
 newlines-append : (xs ys : List ℕ) → newlines (xs ++ ys) ≡ newlines xs + newlines ys
 newlines-append [] ys = omega arith
-newlines-append (x ∷ xs) ys = ap (λ n. newlines (x ∷ []) + n) (newlines-append xs ys) ∙ omega arith
+newlines-append (x ∷ xs) ys = omega (arith, newlines-append xs ys)
 
 a_newline : (text rest : List ℕ) → newlines rest + 1 ≤ newlines (line text rest)
 a_newline text rest = omega (arith, newlines-append text (10 ∷ rest))

@@ -132,7 +132,7 @@ module _ (S : Signature) where
       let few : r.arity ≤ 8 = grind (arith, nat_tests, k.0) in
       let enough : r.arity ≤ length r.terms = grind (arith, nat_tests, k.0) in
       let all : AllOver made.terms =
-          ((subst (IsWrittenSymbol S (record { number = f })) (sym (count_taken r.arity r.terms enough)) (there, few), over_taken r.arity r.terms h), over_dropped r.arity r.terms h) in
+      ((subst (IsWrittenSymbol S (record { number = f })) (sym (count_taken r.arity r.terms enough)) (there, few), over_taken r.arity r.terms h), over_dropped r.arity r.terms h) in
       subst (λ (q : Reading). AllOver q.terms) (some_same made next k.1) all
 
   word_over : (w : List ℕ) (r next : Reading) → AllOver r.terms → with_word S w r ≡ Some next → AllOver next.terms

@@ -21,11 +21,7 @@ use std::alloc::Global;
 /// There are fewer than 2^32 - 1 newlines. `Fault` comes exactly where the bytes are no trace's text, with the first line that
 /// is wrong. `Memory` where memory was wanting.
 #[tactic(auto, using(crate::proofs::LinesRead::for_read_trace))]
-pub fn read_trace(
-    alloc: Global,
-    signature: &Signature,
-    bytes: &[u8],
-) -> Result<Trace, TraceRefusal>
+pub fn read_trace(alloc: Global, signature: &Signature, bytes: &[u8]) -> Result<Trace, TraceRefusal>
     requires { newlines bytes.now + 1 < 2 ^ 32 }
     ensures read { IfOk result (λ trace. IsTraceText signature.now trace bytes.now) }
     ensures fault { IfErr result (λ refusal. IsRefusedFor signature.now bytes.now refusal) }
