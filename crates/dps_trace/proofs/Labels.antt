@@ -35,3 +35,22 @@ channel_is S spelled c rest text front behind h e cut =
 
 pub comma_there : (S : Signature) (c : ℕ) (rest text : List ℕ) → text ≡ name_text S c ++ (44 ∷ rest) → IsWithout 44 text → ⊥
 comma_there S c rest text e h = stands_there 44 (name_text S c) rest (subst (IsWithout 44) e h)
+
+-- what is behind that comma, without its last byte
+pub inside_is :
+    (S : Signature) (spelled : IsSpelled S) (c : ℕ) (within text front behind rest : List ℕ) (last : ℕ) → IsPublic S c → text ≡ name_text S c ++ (44 ∷ within ++ 41 ∷ [])
+    → IsCut 44 text front behind → behind ≡ rest ++ (last ∷ []) → (public_named S front ≡ Some c) × (rest ≡ within)
+inside_is S spelled c within text front behind rest last h e cut l =
+    let k = channel_is S spelled c (within ++ 41 ∷ []) text front behind h e cut in
+    (k.0, last_two rest within last 41 (sym l ∙ k.1))
+  where
+    last_two : (r s : List ℕ) (x y : ℕ) → r ++ (x ∷ []) ≡ s ++ (y ∷ []) → r ≡ s
+    last_two [] [] x y f = refl
+    last_two [] (b ∷ []) x y f = absurd (none_more (ap length f))
+      where
+        none_more : 1 ≡ 2 → ⊥
+        none_more g = omega (arith, g)
+    last_two [] (b ∷ d ∷ s) x y f = cc
+    last_two (a ∷ r) (b ∷ s) x y f = ap (λ z. z ∷ r) (ap (λ xs. get_or xs 0 0) f) ∙ ap (λ zs. b ∷ zs) (last_two r s x y (ap (drop 1) f))
+    last_two (a ∷ []) [] x y f = cc
+    last_two (a ∷ d ∷ r) [] x y f = cc

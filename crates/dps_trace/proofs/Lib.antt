@@ -10,3 +10,7 @@ pub mod Scanned
 pub mod Sound
 pub mod Spelling
 pub mod WordsRead
+pub mod Unbroken
+pub mod Apart
+pub mod OneTrace
+pub mod LinesRead

@@ -85,7 +85,7 @@ module _ (S : Signature) (spelled : IsSpelled S) where
   leaf_reads (rigid n) ks us h = absurd h
 
   -- the symbol is there
-  symbol_there : (f : Sym) (n : ℕ) → HasArity (shapes S) f n → (s : Symbol) × ((slice_get S.symbols f.number ≡ Some s) × (s.arity ≡ n))
+  pub symbol_there : (f : Sym) (n : ℕ) → HasArity (shapes S) f n → (s : Symbol) × ((slice_get S.symbols f.number ≡ Some s) × (s.arity ≡ n))
   symbol_there f n h = go (slice_get S.symbols f.number) refl (sym (slice_get-map shape_of S.symbols f.number) ∙ h.1)
     where
       same : (x y : Shape) → Some x ≡ Some y → x.arity ≡ y.arity
@@ -105,11 +105,11 @@ module _ (S : Signature) (spelled : IsSpelled S) where
   no_opening [] h = refl
   no_opening (b ∷ bs) h = let l = h.word.0 in grind (arith, nat_tests)
 
-  root_of : (f : Sym) (s : Symbol) → slice_get S.symbols f.number ≡ Some s → IsIdentifier s.name → root_text S f ≡ s.name
+  pub root_of : (f : Sym) (s : Symbol) → slice_get S.symbols f.number ≡ Some s → IsIdentifier s.name → root_text S f ≡ s.name
   root_of f s e h =
       ap (λ t. if opens_bracket t then [] else t) (symbol_is f s e) ∙ ap (λ c. if c then [] else s.name) (no_opening s.name h)
 
-  tuple_root : (f : Sym) (s : Symbol) (n : ℕ) → slice_get S.symbols f.number ≡ Some s → s.name ≡ tuple_name n → root_text S f ≡ []
+  pub tuple_root : (f : Sym) (s : Symbol) (n : ℕ) → slice_get S.symbols f.number ≡ Some s → s.name ≡ tuple_name n → root_text S f ≡ []
   tuple_root f s n e t = ap (λ t. if opens_bracket t then [] else t) (symbol_is f s e ∙ t)
 
   -- what the root's text is, and that the symbol is found by it

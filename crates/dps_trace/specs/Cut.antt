@@ -1,5 +1,10 @@
--- Bytes up to the first one of a value, and those behind it.
-use Rattle.std.specs.Prelude.{◌≡◌, ◌≢◌, List, [], ◌∷◌, ◌++◌, ℕ, ⊤}
+-- Newlines; and bytes up to the first one of a value, and those behind it.
+use Rattle.std.specs.Prelude.{◌≡◌, ◌≢◌, List, [], ◌∷◌, ◌++◌, ℕ, ◌+◌, ◌==◌, if◌then◌else◌, ⊤}
+
+-- how many newlines there are
+abbrev pub newlines : List ℕ → ℕ
+newlines [] = 0
+newlines (b ∷ bytes) = (if b == 10 then 1 else 0) + newlines bytes
 
 -- the value does not stand in it
 abbrev pub IsWithout : ℕ → List ℕ → Type 0

@@ -26,6 +26,11 @@ abbrev pub label_lines : Signature → List Label → List ℕ → List ℕ
 label_lines signature [] rest = rest
 label_lines signature (label ∷ labels) rest = line (label_text signature label) (label_lines signature labels rest)
 
+-- lines of labels that may stand behind so many outputs, and nothing else
+pub record AreLabelLines (signature : Signature) (outputs : ℕ) (labels : List Label) (bytes : List ℕ) : Type 0 where
+  pub written : AreWritten signature outputs labels
+  pub text : bytes ≡ label_lines signature labels []
+
 abbrev pub side_line : Side → List ℕ
 side_line Left = codes "side: left"
 side_line Right = codes "side: right"

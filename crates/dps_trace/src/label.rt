@@ -10,7 +10,7 @@ ghost use Rattle.dps_signature.specs.Spelled.{IsSpelled};
 ghost use Rattle.dps_trace.specs.Text.{label_text};
 ghost use Rattle.dps_trace.specs.Written.{IsWrittenLabel, IsWrittenRecipe};
 
-use crate::lines::cut;
+use crate::lines::{behind, cut};
 use crate::printing::write_label;
 use crate::recipe::recipe_read;
 use crate::words::{handle_read, public_named};
@@ -51,10 +51,10 @@ fn label_like(
     ensures written { IfOk result (λ found. IfSome found (λ label. IsWrittenLabel signature.now (label_of label))) }
     ensures only { (label : SeenLabel) → IsWrittenLabel signature.now label → line.now ≡ label_text signature.now label → IfOk result (λ found. option_map label_of found ≡ Some label) }
 {
-    if let Some(rest) = line.strip_prefix(b"in(") {
+    if let Some(rest) = behind(line, b"in(") {
         return input_like(alloc, signature, rest);
     }
-    if let Some(rest) = line.strip_prefix(b"out(") {
+    if let Some(rest) = behind(line, b"out(") {
         return Ok(output_like(signature, rest));
     }
     Ok(None)

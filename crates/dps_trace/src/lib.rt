@@ -16,7 +16,7 @@ mod turn;
 mod words;
 
 pub use fault::{TraceKind, TraceRefusal};
-pub use lines::{Heading, cut, read_heading, read_model_line, read_side_line};
+pub use lines::{Heading, behind, cut, read_heading, read_model_line, read_side_line};
 pub use model::ModelName;
 pub use printing::{print_trace, write_label};
 pub use reading::read_trace;
