@@ -11,11 +11,14 @@ use Rattle.dps_trace.specs.Scanning.{longer, numeral, numeral_from}
 abbrev IsReadAs : ℕ → List ℕ → Type 0
 IsReadAs n digits = (rest : List ℕ) → n < 2 ^ 64 → numeral_from (Some 0) (digits ++ rest) ≡ numeral_from (Some n) rest
 
+pub longer-more : (n b next : ℕ) → 48 ≤ b → b ≤ 57 → next ≡ n * 10 + (b - 48) → next < 2 ^ 64 → Some next ≡ longer n b
+longer-more n b next low high is small = grind (arith, nat_tests)
+
 one_digit : (n : ℕ) → n < 10 → IsReadAs n ((48 + n) ∷ [])
-one_digit n low rest small = grind (arith, nat_tests)
+one_digit n low rest small = ap (λ x. numeral_from x rest) (sym (longer-more 0 (48 + n) n (omega arith) (omega (arith, low)) (omega arith) small))
 
 last_digit : (n : ℕ) (rest : List ℕ) → n < 2 ^ 64 → numeral_from (Some (n / 10)) ((48 + n % 10) ∷ rest) ≡ numeral_from (Some n) rest
-last_digit n rest small = grind (arith, nat_tests)
+last_digit n rest small = ap (λ x. numeral_from x rest) (sym (longer-more (n / 10) (48 + n % 10) n (omega arith) (omega arith) (omega arith) small))
 
 more_digits : (n : ℕ) (digits : List ℕ) → 10 ≤ n → IsReadAs (n / 10) digits → IsReadAs n (digits ++ ((48 + n % 10) ∷ []))
 more_digits n digits high before rest small = rw append_assoc (before ((48 + n % 10) ∷ rest) (omega arith) ∙ last_digit n rest small)
@@ -36,15 +39,3 @@ pub decimal_digits : (n : ℕ) → n < 2 ^ 64 → AreDigits (decimal n)
 decimal_digits n small =
     decimal_by_steps (λ n ds. AreDigits ds) (λ n low. (omega arith, omega arith, tt))
     (λ n ds high h. digits_behind ds (48 + n % 10) (omega arith) (omega arith) h) n small
-
-pub longer-low : (n b : ℕ) → b < 48 → None ≡ longer n b
-longer-low n b low = grind (arith, nat_tests)
-
-pub longer-high : (n b : ℕ) → 57 < b → None ≡ longer n b
-longer-high n b high = grind (arith, nat_tests)
-
-pub longer-large : (n b : ℕ) → 2 ^ 64 ≤ n * 10 + (b - 48) → None ≡ longer n b
-longer-large n b large = grind (arith, nat_tests)
-
-pub longer-more : (n b next : ℕ) → 48 ≤ b → b ≤ 57 → next ≡ n * 10 + (b - 48) → next < 2 ^ 64 → Some next ≡ longer n b
-longer-more n b next low high is small = grind (arith, nat_tests)

@@ -1,6 +1,7 @@
 -- The handles of a recipe, node by node.
-use Rattle.std.proofs.Common.{◌≡◌, ◌≤◌, ◌<◌, ◌+◌, ℕ, List, [], ◌∷◌, ◌++◌, length, take, drop, refl, ap, sym, subst, ◌∙◌, arith}
-use Rattle.std.specs.Prelude.{◌↔◌, ⊤}
+use Rattle.std.proofs.Common.{◌≡◌, ◌≤◌, ◌<◌, ◌+◌, ℕ, Bool, true, List, [], ◌∷◌, ◌++◌, length, take, drop, refl, ap, sym, subst, ◌∙◌, arith}
+use Rattle.std.specs.Prelude.{◌↔◌, ◌==◌, ⊤, IsTrue}
+use Rattle.std.proofs.lemmas.Bool.Decides.{nat_tests}
 use Rattle.std.proofs.lemmas.List.{take-append-drop}
 use Rattle.dps_terms.specs.declared.borrowed.TermView.{TermView}
 use Rattle.dps_terms.specs.declared.borrowed.TermView.TheVariants.{Ax}
@@ -78,3 +79,12 @@ pub holds : (m : ℕ) (t : Tree) (node : ℕ) → Follows m t node → subterms_
 holds m t node h e = h.from_rest (subst (AllUpTo m) (sym e) tt)
 
 pub ruleset for_has_handles_up_to = (begins, goes_on, fails, holds)
+
+-- an input is in turn where its recipe has such handles, and an output where its handle is the next
+pub input_in_turn : (m : ℕ) (b : Bool) (t r : Tree) → t ≡ r → IsTrue b ↔ IsBuiltOf (IsHandleUpTo m) AnySymbol t → IsTrue b ↔ IsBuiltOf (IsHandleUpTo m) AnySymbol r
+input_in_turn m b t r e h = subst (λ u. IsTrue b ↔ IsBuiltOf (IsHandleUpTo m) AnySymbol u) e h
+
+pub output_in_turn : (m j : ℕ) (b : Bool) → b ≡ (j == m + 1) → IsTrue b ↔ (j ≡ m + 1)
+output_in_turn m j b e = (λ h. let t : (j == m + 1) ≡ true = sym e ∙ h in grind (arith, nat_tests, t), λ h. e ∙ (let t : (j == m + 1) ≡ true = grind (arith, nat_tests, h) in t))
+
+pub ruleset for_is_in_turn = (input_in_turn, output_in_turn)

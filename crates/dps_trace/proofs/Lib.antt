@@ -1,4 +1,3 @@
-pub mod Ascii
 pub mod Cuts
 pub mod Digits
 pub mod Fronts
@@ -6,6 +5,7 @@ pub mod Handles
 pub mod Labels
 pub mod EachLine
 pub mod Backward
+pub mod ReadWord
 pub mod Scanned
 pub mod Sound
 pub mod Spelling

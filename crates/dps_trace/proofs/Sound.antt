@@ -12,7 +12,7 @@ use Rattle.dps_signature.specs.Signature.{Symbol, Name, Signature, HasArity, IsP
 use Rattle.dps_signature.specs.Names.{symbol_named, name_named, tuple_name}
 use Rattle.dps_terms.specs.Kinds.{IsBuiltOf, AreBuiltOf}
 use Rattle.dps_trace.specs.Written.{IsWrittenLeaf, IsWrittenSymbol, IsWrittenRecipe}
-use Rattle.dps_trace.specs.Scanning.{Reading, Scan, start, scanned, with_byte, with_word, with_sign, closing, comma_in, opening_in, behind_word, between, is_sign, or_leaf, with_leaf, applied, symbol_read, symbol_if, leaf_read, or_mark, or_own, or_handle, public_named, public_if, is_public, own_read, handle_read, handle_of, behind_a, numeral, numeral_from, longer, has_arity, is_ascii, finished, only_term, read_whole, recipe_read}
+use Rattle.dps_trace.specs.Scanning.{Reading, Scan, start, scanned, with_byte, with_word, with_sign, closing, comma_in, opening_in, behind_word, between, is_sign, or_leaf, with_leaf, applied, symbol_read, symbol_if, leaf_read, or_mark, or_own, or_handle, public_named, public_if, is_public, own_read, handle_read, handle_of, behind_a, numeral, numeral_from, longer, has_arity, finished, only_term, read_whole, recipe_read}
 
 -- where a choice is some value, the test is true and the value this
 if_some : {A : Type 0} (c : Bool) (x : Option A) (y : A) → (if c then x else None) ≡ Some y → (c ≡ true) × (x ≡ Some y)
@@ -71,7 +71,7 @@ module _ (S : Signature) where
 
   symbol_over : (w : List ℕ) (n f : ℕ) → symbol_read S w n ≡ Some f → HasArity (shapes S) (record { number = f }) n
   symbol_over [] n f e = symbol_known n (symbol_named S (tuple_name n)) f (if_some (nat_le 2 n && nat_le n 8) (symbol_if S n (symbol_named S (tuple_name n))) f e).1
-  symbol_over (b ∷ w) n f e = symbol_known n (symbol_named S (b ∷ w)) f (if_some (is_ascii (b ∷ w)) (symbol_if S n (symbol_named S (b ∷ w))) f e).1
+  symbol_over (b ∷ w) n f e = symbol_known n (symbol_named S (b ∷ w)) f e
 
   public_known : (n : ℕ) → is_public S n ≡ true → IsPublic S n
   public_known n e = go (slice_get S.names n) refl e
@@ -89,7 +89,7 @@ module _ (S : Signature) where
   public_over (Some m) n e = let h = if_some (is_public S m) (Some m) n e in subst (IsPublic S) (some_same m n h.1) (public_known m h.0)
 
   pub named_over : (w : List ℕ) (n : ℕ) → public_named S w ≡ Some n → IsPublic S n
-  named_over w n e = public_over (name_named S w) n (if_some (is_ascii w) (public_if S (name_named S w)) n e).1
+  named_over w n e = public_over (name_named S w) n e
 
   own_small : (w : List ℕ) (k : ℕ) → own_read w ≡ Some k → k < 2 ^ 64
   own_small [] k e = cc

@@ -1,13 +1,16 @@
 -- What texts of names, symbols and marks are made of.
-use Rattle.std.proofs.Common.{◌≡◌, ℕ, ◌+◌, ◌<◌, ◌≤◌, ◌^◌, Bool, true, false, ◌&&◌, ◌||◌, inl, inr, List, [], ◌∷◌, ◌++◌, Option, Some, None, refl, ap, sym, subst, ◌∙◌, length, get_or, codes, arith, IsTrue, slice_get, map, if◌then◌else◌}
+use Rattle.std.proofs.Common.{◌≡◌, ℕ, ◌+◌, ◌<◌, ◌≤◌, ◌^◌, lit<, Bool, true, false, ◌&&◌, ◌||◌, inl, inr, List, [], ◌∷◌, ◌++◌, Option, Some, None, refl, ap, sym, subst, ◌∙◌, length, get_or, codes, arith, IsTrue, slice_get, map, if◌then◌else◌}
 use Rattle.std.specs.Prelude.{◌==◌, nat_le, nat_lt, ⊤}
-use Rattle.std.specs.List.{AllPass, position}
-use Rattle.std.specs.Str.{byte, bytes_eq}
+use Rattle.std.specs.List.{All, AllPass, position, slice_index_or}
+use Rattle.std.specs.Str.{byte, bytes_eq, IsUtf8}
 use Rattle.std.specs.Fmt.{decimal}
 use Rattle.std.specs.Option.{option_map}
 use Rattle.std.proofs.lemmas.Bool.Decides.{nat_tests, same_from_decides}
 use Rattle.std.proofs.lemmas.Slice.Eq.{bytes_eq-Decides}
+use Rattle.std.proofs.lemmas.List.Elements.{All-cons, All-nil}
 use Rattle.std.proofs.lemmas.Option.{slice_get-get_or}
+use Rattle.std.proofs.lemmas.Str.{IsUtf8-from_ascii}
+use Rattle.std.proofs.lemmas.Str.Ascii.{IsAscii-from_all}
 use Rattle.std.proofs.lemmas.List.Quantifiers.{position-Some}
 use Rattle.std.proofs.lemmas.List.Sums.{list_all-from_AllPass, AllPass-from_list_all}
 use Rattle.std.specs.List.{list_all}
@@ -16,7 +19,7 @@ use Rattle.dps_signature.specs.declared.SymKind.TheVariants.{Constructor}
 use Rattle.dps_signature.specs.Signature.{Symbol, Name, Signature}
 use Rattle.dps_signature.specs.Names.{is_letter, is_digit, is_name_byte, IsWord, IsIdentifier, IsSymbolText, IsTupleSymbol, IsHandleText, tuple_name, symbol_named, name_named}
 use Rattle.dps_signature.specs.Spelled.{IsSpelled}
-use Rattle.dps_trace.specs.Scanning.{is_ascii, is_sign}
+use Rattle.dps_trace.specs.Scanning.{is_sign, public_named, public_if}
 use Rattle.dps_trace.proofs.Scanned.{IsUnsigned}
 use Rattle.dps_trace.proofs.Digits.{AreDigits}
 
@@ -24,26 +27,34 @@ use Rattle.dps_trace.proofs.Digits.{AreDigits}
 name_byte : (b : ℕ) → is_name_byte b ≡ true → (is_sign b ≡ false) × (b < 128)
 name_byte b h = grind (arith, nat_tests)
 
-ascii_more : (b : ℕ) (bs : List ℕ) → b < 128 → is_ascii bs ≡ true → is_ascii (b ∷ bs) ≡ true
-ascii_more b bs low h = grind (arith, nat_tests)
-
-names_unsigned : (bs : List ℕ) → list_all is_name_byte bs ≡ true → IsUnsigned bs × (is_ascii bs ≡ true)
-names_unsigned [] h = (tt, refl)
+names_unsigned : (bs : List ℕ) → list_all is_name_byte bs ≡ true → IsUnsigned bs
+names_unsigned [] h = tt
 names_unsigned (b ∷ bs) h =
     let both : (is_name_byte b ≡ true) × (list_all is_name_byte bs ≡ true) = grind (arith, nat_tests) in
-    let one = name_byte b both.0 in
-    let more = names_unsigned bs both.1 in
-    ((one.0, more.0), ascii_more b bs one.1 more.1)
+    ((name_byte b both.0).0, names_unsigned bs both.1)
 
 letter_byte : (b : ℕ) → is_letter b ≡ true → is_name_byte b ≡ true
 letter_byte b h = grind (arith, nat_tests)
 
-pub word_bytes : (text : List ℕ) → IsWord text → IsUnsigned text × (is_ascii text ≡ true)
+low_bytes : (bs : List ℕ) → All (λ b. b < 128) bs → IsUtf8 bs
+low_bytes bs h = IsUtf8-from_ascii bs (IsAscii-from_all bs h)
+
+pub word_bytes : (text : List ℕ) → IsWord text → IsUnsigned text × IsUtf8 text
 word_bytes [] h = absurd h
 word_bytes (b ∷ bs) h =
     let one = name_byte b (letter_byte b h.0) in
-    let more = names_unsigned bs (list_all-from_AllPass is_name_byte bs h.1) in
-    ((one.0, more.0), ascii_more b bs one.1 more.1)
+    (
+      (one.0, names_unsigned bs (list_all-from_AllPass is_name_byte bs h.1)),
+      low_bytes (b ∷ bs) (All-cons (λ x. x < 128) b bs one.1 (λ k d l. (name_byte (slice_index_or bs k d) (h.1 k d l)).1)),
+    )
+
+tuple_bytes : (n : ℕ) → n ≤ 8 → IsUtf8 (tuple_name n)
+tuple_bytes n few =
+    let low : ℕ → Type 0 = λ x. x < 128 in
+    low_bytes (tuple_name n)
+    (All-cons low 40 ((48 + n) ∷ 41 ∷ []) (lit< tt)
+    (All-cons low (48 + n) (41 ∷ []) (omega (arith, few))
+    (All-cons low 41 [] (lit< tt) (All-nil low))))
 
 digit_byte : (b : ℕ) → 48 ≤ b → b ≤ 57 → is_sign b ≡ false
 digit_byte b low high = grind (arith, nat_tests)
@@ -95,7 +106,7 @@ own_no_text bs = record { no_identifier = λ h. no_letter h.word.0; no_tuple = �
     no_letter : is_letter 64 ≡ true → ⊥
     no_letter e = cc
 
-    no_bracket : 64 ≡ 40 → ⊥
+    no_bracket : ◌≡◌ {A = ℕ} 64 40 → ⊥
     no_bracket e = omega (arith, e)
 
 pub handle_no_text : (bs : List ℕ) → 0 < length bs → AreDigits bs → IsNoText (97 ∷ 120 ∷ bs)
@@ -108,5 +119,16 @@ handle_no_text bs some digits = record { no_identifier = λ h. h.no_handle (refl
     all : (bs : List ℕ) → AreDigits bs → AllPass is_digit bs
     all bs h = AllPass-from_list_all is_digit bs (all_digits bs h)
 
-    no_bracket : 97 ≡ 40 → ⊥
+    no_bracket : ◌≡◌ {A = ℕ} 97 40 → ⊥
     no_bracket e = omega (arith, e)
+
+-- bytes that are not UTF-8 are none
+bytes_no_text : (text : List ℕ) → ¬ IsUtf8 text → IsNoText text
+bytes_no_text text broken =
+    record { no_identifier = λ h. broken (word_bytes text h.word).1; no_tuple = λ kind n h. broken (subst IsUtf8 (sym h.named) (tuple_bytes n h.few)) }
+
+pub no_public_bytes : (S : Signature) (text : List ℕ) → IsSpelled S → ¬ IsUtf8 text → None ≡ public_named S text
+no_public_bytes S text spelled broken = ap (public_if S) (sym (no_name S text spelled (bytes_no_text text broken)))
+
+pub no_symbol_bytes : (S : Signature) (text : List ℕ) → IsSpelled S → ¬ IsUtf8 text → None ≡ symbol_named S text
+no_symbol_bytes S text spelled broken = sym (no_symbol S text spelled (bytes_no_text text broken))

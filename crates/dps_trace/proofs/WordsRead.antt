@@ -14,23 +14,15 @@ use Rattle.dps_signature.specs.Names.{IsSymbolText, IsIdentifier, IsTupleSymbol,
 use Rattle.dps_signature.specs.Text.{leaf_text, name_text, symbol_text, root_text, opens_bracket}
 use Rattle.dps_signature.specs.Spelled.{IsSpelled}
 use Rattle.dps_trace.specs.Written.{IsWrittenLeaf, IsWrittenSymbol}
-use Rattle.dps_trace.specs.Scanning.{Reading, with_word, or_leaf, applied, symbol_read, symbol_if, leaf_read, or_mark, or_own, or_handle, public_named, public_if, is_public, own_read, handle_read, handle_of, numeral, has_arity, is_ascii}
+use Rattle.dps_trace.specs.Scanning.{Reading, with_word, or_leaf, applied, symbol_read, symbol_if, leaf_read, or_mark, or_own, or_handle, public_named, public_if, is_public, own_read, handle_read, handle_of, numeral, has_arity}
 use Rattle.dps_trace.proofs.Scanned.{IsUnsigned, AreRead, settled}
 use Rattle.dps_trace.proofs.Digits.{numeral-decimal, decimal_digits}
 use Rattle.dps_trace.proofs.Spelling.{word_bytes, digits_unsigned, no_symbol, no_name, IsNoText, own_no_text, handle_no_text}
 
 module _ (S : Signature) (spelled : IsSpelled S) where
-  if_none : (c : Bool) (n : ℕ) (x : Option ℕ) → x ≡ None → (if c then symbol_if S n x else None) ≡ None
-  if_none true n x e = ap (symbol_if S n) e
-  if_none false n x e = refl
-
   no_symbol_read : (w : List ℕ) → symbol_named S w ≡ None → symbol_read S w 0 ≡ None
   no_symbol_read [] e = refl
-  no_symbol_read (b ∷ w) e = if_none (is_ascii (b ∷ w)) 0 (symbol_named S (b ∷ w)) e
-
-  no_public : (c : Bool) (x : Option ℕ) → x ≡ None → (if c then public_if S x else None) ≡ None
-  no_public true x e = ap (public_if S) e
-  no_public false x e = refl
+  no_symbol_read (b ∷ w) e = ap (symbol_if S 0) e
 
   leaf_word : (w : List ℕ) (x : Leaf) (ks : List ℕ) (us : List Tree) → symbol_read S w 0 ≡ None → leaf_read S w ≡ Some x → with_word S w (record { brackets = ks; arity = 0; terms = us }) ≡ settled ks (leaf x ∷ us)
   leaf_word w x ks us e f =
@@ -52,8 +44,7 @@ module _ (S : Signature) (spelled : IsSpelled S) where
 
   pub public_read : (n : ℕ) (h : IsPublic S n) → public_named S h.0 ≡ Some n
   public_read n h =
-      ap (λ c. if c then public_if S (name_named S h.0) else None) (word_bytes h.0 (identifier n h).word).1
-      ∙ ap (public_if S) (named n h)
+      ap (public_if S) (named n h)
       ∙ ap (λ c. if c then Some n else None) (public_there n h)
 
   leaf_signs : (x : Leaf) → IsWrittenLeaf S x → IsUnsigned (leaf_text S x)
@@ -78,7 +69,7 @@ module _ (S : Signature) (spelled : IsSpelled S) where
       let w = 64 ∷ decimal k in
       leaf_word w (public (At k)) ks us
           (no_symbol_read w (no_symbol S w spelled (own_no_text (decimal k))))
-          (ap (or_mark w) (no_public (is_ascii w) (name_named S w) (no_name S w spelled (own_no_text (decimal k)))) ∙ ap (or_own w) (numeral-decimal k h))
+          (ap (or_mark w) (ap (public_if S) (no_name S w spelled (own_no_text (decimal k)))) ∙ ap (or_own w) (numeral-decimal k h))
   leaf_reads (private n) ks us h = absurd h
   leaf_reads (var n) ks us h = absurd h
   leaf_reads (ax j) ks us h =
@@ -87,7 +78,7 @@ module _ (S : Signature) (spelled : IsSpelled S) where
       let no : IsNoText w = handle_no_text (decimal j) (decimal_nonempty j low) (decimal_digits j low) in
       leaf_word w (ax j) ks us
           (no_symbol_read w (no_symbol S w spelled no))
-          (ap (or_mark w) (no_public (is_ascii w) (name_named S w) (no_name S w spelled no))
+          (ap (or_mark w) (ap (public_if S) (no_name S w spelled no))
           ∙ ap (λ x. or_handle (handle_of x)) (numeral-decimal j low)
           ∙ ap or_handle (in_range j h.0 h.1))
   leaf_reads (entry n) ks us h = absurd h
@@ -129,8 +120,7 @@ module _ (S : Signature) (spelled : IsSpelled S) where
   found_by_name : (f : Sym) (n : ℕ) (text : List ℕ) → IsIdentifier text → symbol_named S text ≡ Some f.number → has_arity S f.number n ≡ true → symbol_read S text n ≡ Some f.number
   found_by_name f n [] h e a = absurd h.word
   found_by_name f n (b ∷ text) h e a =
-      ap (λ c. if c then symbol_if S n (symbol_named S (b ∷ text)) else None) (word_bytes (b ∷ text) h.word).1
-      ∙ ap (symbol_if S n) e
+      ap (symbol_if S n) e
       ∙ ap (λ c. if c then Some f.number else None) a
 
   found_as_tuple : (f : Sym) (n : ℕ) → 2 ≤ n → n ≤ 8 → symbol_named S (tuple_name n) ≡ Some f.number → has_arity S f.number n ≡ true → symbol_read S [] n ≡ Some f.number

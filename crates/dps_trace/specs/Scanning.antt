@@ -32,11 +32,6 @@ numeral_from (Some n) (b ∷ digits) = numeral_from (longer n b) digits
 abbrev pub numeral : List ℕ → Option ℕ
 numeral digits = numeral_from (Some 0) digits
 
--- ASCII alone
-abbrev pub is_ascii : List ℕ → Bool
-is_ascii [] = true
-is_ascii (b ∷ bytes) = nat_lt b 128 && is_ascii bytes
-
 -- a handle of this number
 abbrev pub handle_of : Option ℕ → Option ℕ
 handle_of None = None
@@ -66,7 +61,7 @@ public_if signature None = None
 public_if signature (Some n) = if is_public signature n then Some n else None
 
 abbrev pub public_named : Signature → List ℕ → Option ℕ
-public_named signature text = if is_ascii text then public_if signature (name_named signature text) else None
+public_named signature text = public_if signature (name_named signature text)
 
 -- what the word means where no bracket comes behind it: a public name, a name of the attacker's own, or a handle
 abbrev pub or_handle : Option ℕ → Option Leaf
@@ -95,7 +90,7 @@ symbol_if signature n (Some f) = if has_arity signature f n then Some f else Non
 
 abbrev pub symbol_read : Signature → List ℕ → ℕ → Option ℕ
 symbol_read signature [] n = if nat_le 2 n && nat_le n 8 then symbol_if signature n (symbol_named signature (tuple_name n)) else None
-symbol_read signature (b ∷ word) n = if is_ascii (b ∷ word) then symbol_if signature n (symbol_named signature (b ∷ word)) else None
+symbol_read signature (b ∷ word) n = symbol_if signature n (symbol_named signature (b ∷ word))
 
 -- the symbol over as many terms as its arity says
 abbrev pub applied : Reading → Option ℕ → Option Reading

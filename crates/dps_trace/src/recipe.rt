@@ -114,6 +114,7 @@ impl Reading {
     }
 
     /// Reads a word. False where it means nothing there.
+    #[tactic(auto, using(crate::proofs::ReadWord::for_read_word))]
     fn read_word(&mut self, signature: &Signature, word: &[u8]) -> Result<bool, NoMemory>
         ensures { IfOk result (λ read. told read self.new ≡ with_word signature.now word.now self.old) }
     {

@@ -9,6 +9,7 @@ use dps_process::Label;
 use dps_terms::{TermRef, TermView};
 
 /// Whether the label may come behind so many outputs: an output with the next handle, an input with their handles alone.
+#[tactic(auto, using(crate::proofs::Handles::for_is_in_turn))]
 pub(crate) fn is_in_turn(label: &Label, outputs: u32) -> bool
     ensures { IsTrue result ↔ IsInTurn outputs (label_of label.now) }
 {

@@ -1,7 +1,7 @@
 //! What words of a label mean.
-ghost use Rattle.std.specs.Prelude.{◌≡◌, ◌↔◌, IsTrue, option_map, option_copied, Some, None, if◌then◌else◌};
-ghost use Rattle.dps_trace.specs.Scanning.{numeral, numeral_from, longer, is_ascii, public_named, public_if, handle_read, handle_of, own_read, leaf_read, symbol_read, symbol_if};
-ghost use Rattle.dps_signature.specs.Names.{symbol_named, name_named};
+ghost use Rattle.std.specs.Prelude.{◌≡◌, option_map};
+ghost use Rattle.dps_trace.specs.Scanning.{numeral, longer, public_named, handle_read, own_read, leaf_read, symbol_read, symbol_if};
+ghost use Rattle.dps_signature.specs.Names.{symbol_named};
 ghost use Rattle.dps_terms.specs.Leaves.{leaf_seen};
 
 use dps_signature::{Signature, tuple_text};
@@ -38,37 +38,15 @@ pub fn numeral(digits: &[u8]) -> Option<u64>
     Some(number)
 }
 
-#[tactic(auto, using(crate::proofs::Ascii::for_is_ascii))]
-fn is_ascii(bytes: &[u8]) -> bool
-    ensures { result ≡ is_ascii bytes.now }
-{
-    for byte in bytes {
-        if *byte >= 128 {
-            return false;
-        }
-    }
-    true
-}
-
-/// The bytes as text, where they are ASCII alone.
-fn ascii_text(bytes: &[u8]) -> Option<&str>
-    ensures { option_copied result ≡ if is_ascii bytes.now then Some bytes.now else None }
-{
-    if !is_ascii(bytes) {
-        return None;
-    }
-    match str::from_utf8(bytes) {
-        Ok(text) => Some(text),
-        Err(_) => None,
-    }
-}
-
-/// The public name with this text.
+/// The public name with this text. Bytes that are not UTF-8 are no name's.
+#[tactic(auto, using(crate::proofs::Spelling::no_public_bytes))]
 pub(crate) fn public_named(signature: &Signature, text: &[u8]) -> Option<u32>
     ensures { result ≡ public_named signature.now text.now }
 {
-    let Some(text) = ascii_text(text) else {
-        return None;
+    signature.spelled();
+    let text = match str::from_utf8(text) {
+        Ok(text) => text,
+        Err(_) => return None,
     };
     let Some(number) = signature.name(text) else {
         return None;
@@ -128,22 +106,25 @@ pub(crate) fn leaf_read(signature: &Signature, text: &[u8]) -> Option<TermLeaf>
 pub(crate) fn symbol_read(signature: &Signature, text: &[u8], arity: u32) -> Option<Sym>
     ensures { option_map (λ s. s.number) result ≡ symbol_read signature.now text.now arity }
 {
-    if text.is_empty() {
-        if arity < 2 || arity > 8 {
-            return None;
-        }
-        return symbol_named(signature, tuple_text(arity), arity);
+    if !text.is_empty() {
+        return symbol_named(signature, text, arity);
     }
-    let Some(text) = ascii_text(text) else {
+    if arity < 2 || arity > 8 {
         return None;
-    };
-    symbol_named(signature, text, arity)
+    }
+    symbol_named(signature, tuple_text(arity).as_bytes(), arity)
 }
 
-/// The symbol with this text, where it has this arity.
-fn symbol_named(signature: &Signature, text: &str, arity: u32) -> Option<Sym>
+/// The symbol with this text, where it has this arity. Bytes that are not UTF-8 are no symbol's.
+#[tactic(auto, using(crate::proofs::Spelling::no_symbol_bytes))]
+fn symbol_named(signature: &Signature, text: &[u8], arity: u32) -> Option<Sym>
     ensures { option_map (λ s. s.number) result ≡ symbol_if signature.now arity (symbol_named signature.now text.now) }
 {
+    signature.spelled();
+    let text = match str::from_utf8(text) {
+        Ok(text) => text,
+        Err(_) => return None,
+    };
     let Some(sym) = signature.symbol(text) else {
         return None;
     };
