@@ -1,7 +1,7 @@
 -- Reading the lines of labels, and a whole trace.
 use Rattle.std.proofs.Common.{◌≡◌, ◌≢◌, ◌⊎◌, inl, inr, ℕ, ◌+◌, ◌-◌, ◌<◌, ◌≤◌, ◌^◌, IsTrue, true, false, List, [], ◌∷◌, ◌++◌, Option, Some, None, Ok, Err, Result, refl, ap, sym, subst, ◌∙◌, length, map, arith, append_assoc, length-append}
 use Rattle.std.specs.Prelude.{◌==◌, ◌↔◌, ⊤}
-use Rattle.std.proofs.lemmas.Bool.Decides.{nat_tests}
+use Rattle.std.proofs.lemmas.Bool.{eqb-true, eq-eqb}
 use Rattle.std.proofs.lemmas.List.{append-nil}
 use Rattle.std.proofs.lemmas.Option.{none-some}
 use Rattle.dps_signature.specs.Signature.{Signature}
@@ -132,23 +132,33 @@ one_more S first bytes items new here outputs next rest behind item h b n e =
       room = omega (arith, h.room, longer, a_newline (label_text S x) behind, ap newlines b.text);
     })
 
+some_left : (rest : List ℕ) → (length rest == 0) ≡ false → rest ≢ []
+some_left rest h e = let f : (length rest == 0) ≡ true = eq-eqb (length rest) 0 (ap length e) in cc
+
+none_left : (rest : List ℕ) → (length rest == 0) ≡ true → rest ≡ []
+none_left [] e = refl
+none_left (b ∷ bs) e = absurd (longer_than_none (eqb-true (length (b ∷ bs)) 0 e))
+  where
+    longer_than_none : length (b ∷ bs) ≡ 0 → ⊥
+    longer_than_none f = omega (arith, f)
+
 -- the next line is wrong
 pub wrong_next :
     (S : Signature) (first : ℕ) (bytes : List ℕ) (labels : List Label) (here outputs : ℕ) (rest : List ℕ) (refusal : TraceRefusal) → AreRead S first bytes labels here outputs rest
-    → rest ≢ [] → IsWrongNext S here outputs rest refusal → HasWrongLine S first bytes refusal
+    → (length rest == 0) ≡ false → IsWrongNext S here outputs rest refusal → HasWrongLine S first bytes refusal
 wrong_next S first bytes labels here outputs rest (Fault at kinds.NoTrace) h more w = w
 wrong_next S first bytes labels here outputs rest (Fault at kinds.Header) h more w = w
 wrong_next S first bytes labels here outputs rest (Fault at kinds.Model) h more w = w
 wrong_next S first bytes labels here outputs rest (Fault at kinds.Side) h more w = w
 wrong_next S first bytes labels here outputs rest (Fault at kinds.Label) h more w =
-    record { labels = labels; rest = rest; place = w.0 ∙ h.place; written = h.written; good = h.text; more = more; wrong = w.1 }
+    record { labels = labels; rest = rest; place = w.0 ∙ h.place; written = h.written; good = h.text; more = some_left rest more; wrong = w.1 }
 wrong_next S first bytes labels here outputs rest (Fault at kinds.Ax) h more w =
     record { labels = labels; rest = rest; place = w.0 ∙ h.place; written = h.written; good = h.text; wrong = subst (λ m. BeginsOutOfTurn S m rest) h.outputs_are w.1 }
 wrong_next S first bytes labels here outputs rest Memory h more w = tt
 
 -- nothing is left
-pub all_read : (S : Signature) (first : ℕ) (bytes : List ℕ) (labels : List Label) (here outputs : ℕ) (rest : List ℕ) → AreRead S first bytes labels here outputs rest → rest ≡ [] → AreLabelLines S 0 labels bytes
-all_read S first bytes labels here outputs rest h e = record { written = h.written; text = h.text ∙ ap (label_lines S labels) e }
+pub all_read : (S : Signature) (first : ℕ) (bytes : List ℕ) (labels : List Label) (here outputs : ℕ) (rest : List ℕ) → AreRead S first bytes labels here outputs rest → (length rest == 0) ≡ true → AreLabelLines S 0 labels bytes
+all_read S first bytes labels here outputs rest h e = record { written = h.written; text = h.text ∙ ap (label_lines S labels) (none_left rest e) }
 
 -- what is behind a line is shorter
 pub shorter : (S : Signature) (outputs : ℕ) (label : Label) (behind rest : List ℕ) → BeginsLabel S outputs label behind rest → length behind < length rest
@@ -183,15 +193,18 @@ whole_trace S bytes rest lines trace e f h =
     record { written = h.written; text = e ∙ ap (heading trace.model) (f ∙ ap (line (side_line trace.side)) h.text) }
 
 -- a text of a trace is read as this trace, or there was no memory
+abbrev pub IsOnly : Result Trace TraceRefusal → Trace → Type 0
+IsOnly result trace = (result ≡ Ok trace) ⊎ (result ≡ Err Memory)
+
 pub only_this :
-    (S : Signature) (spelled : IsSpelled S) (bytes : List ℕ) (found trace : Trace) → IsTraceText S found bytes → IsTraceText S trace bytes
-    → found ≡ trace
-only_this S spelled bytes found trace h k = one_trace S spelled bytes found trace h k
+    (S : Signature) (spelled : IsSpelled S) (bytes : List ℕ) (found trace : Trace) → IsTraceText S found bytes → IsTraceText S trace bytes → IsOnly (Ok found) trace
+only_this S spelled bytes found trace h k = inl (ap Ok (one_trace S spelled bytes found trace h k))
 
 pub only_memory :
-    (S : Signature) (spelled : IsSpelled S) (bytes : List ℕ) (refusal : TraceRefusal) (trace : Trace) → IsRefusedFor S bytes refusal → IsTraceText S trace bytes → refusal ≡ Memory
+    (S : Signature) (spelled : IsSpelled S) (bytes : List ℕ) (refusal : TraceRefusal) (trace : Trace) → IsRefusedFor S bytes refusal → IsTraceText S trace bytes
+    → IsOnly (Err refusal) trace
 only_memory S spelled bytes (Fault at kind) trace h k = absurd (faulty_is_none S spelled bytes at kind h trace k)
-only_memory S spelled bytes Memory trace h k = refl
+only_memory S spelled bytes Memory trace h k = inr refl
 
 heading_newlines : (model : Option ModelName) (rest : List ℕ) → heading_lines model + newlines rest ≡ newlines (heading model rest)
 heading_newlines None rest = omega arith
