@@ -86,7 +86,7 @@ pub of_inputs :
 of_inputs S line rest P is f (inputs c r) h e = f c r h (ap (drop 3) (sym is ∙ e))
 of_inputs S line rest P is f (outputs c j) h e = absurd (clash (ap (λ xs. get_or xs 0 0) (sym is ∙ e)))
   where
-    clash : 105 ≡ 111 → ⊥
+    clash : ◌≡◌ {A = ℕ} 105 111 → ⊥
     clash g = omega (arith, g)
 of_inputs S line rest P is f (overhears c j) h e = absurd h
 
@@ -97,7 +97,7 @@ pub of_outputs :
 of_outputs S line rest P is f (outputs c j) h e = f c j h (ap (drop 4) (sym is ∙ e))
 of_outputs S line rest P is f (inputs c r) h e = absurd (clash (ap (λ xs. get_or xs 0 0) (sym is ∙ e)))
   where
-    clash : 111 ≡ 105 → ⊥
+    clash : ◌≡◌ {A = ℕ} 111 105 → ⊥
     clash g = omega (arith, g)
 of_outputs S line rest P is f (overhears c j) h e = absurd h
 

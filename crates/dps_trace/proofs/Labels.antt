@@ -25,7 +25,7 @@ text_read S spelled r h = recipe_scanned S (IsWrittenLeaf S) (IsWrittenSymbol S)
 pub handle_is : (S : Signature) (spelled : IsSpelled S) (j : ℕ) → 1 ≤ j → j < 2 ^ 32 → handle_read (97 ∷ 120 ∷ decimal j) ≡ Some j
 handle_is S spelled j low high = ap handle_of (numeral-decimal j (omega arith)) ∙ in_range S spelled j low high
 
-name_without : (S : Signature) (spelled : IsSpelled S) (c : ℕ) → IsPublic S c → IsWithout 44 (name_text S c)
+pub name_without : (S : Signature) (spelled : IsSpelled S) (c : ℕ) → IsPublic S c → IsWithout 44 (name_text S c)
 name_without S spelled c h = subst (IsWithout 44) (sym (name_is S spelled c h)) (unsigned_without h.0 (word_bytes h.0 (identifier S spelled c h).word).0)
 
 -- the channel is what stands before the first comma
