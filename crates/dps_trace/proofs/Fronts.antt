@@ -72,8 +72,8 @@ cut_found x k bytes front back rest b p f d r =
       without =
           subst (IsWithout x) (sym f)
           (without_by_index x (take k bytes) (λ j l e.
-              let low : j < k = omega (arith, here, l) in
-              b.before j (omega arith) low (eq-eqb (get_or bytes j 0) x (sym (get_or-take k bytes j 0 low) ∙ e))));
+          let low : j < k = omega (arith, here, l) in
+          b.before j (omega arith) low (eq-eqb (get_or bytes j 0) x (sym (get_or-take k bytes j 0 low) ∙ e))));
     }
 
 -- the value is nowhere
