@@ -25,8 +25,11 @@ some_same : {A : Type 0} (x y : A) → Some x ≡ Some y → x ≡ y
 some_same x y e = cc
 
 -- the byte at a place
-byte_at : ℕ → List ℕ → ℕ
+abbrev byte_at : ℕ → List ℕ → ℕ
 byte_at i bytes = get_or bytes i 0
+
+apart_by : (a b : ℕ) → a ≢ b → a ≡ b → ⊥
+apart_by a b h e = h e
 
 pub a_line_is_some : (text rest : List ℕ) → line text rest ≢ []
 a_line_is_some [] rest e = cc
@@ -59,14 +62,8 @@ module _ (S : Signature) (spelled : IsSpelled S) where
       let digits : decimal j ≡ decimal i = append_cancel_right (decimal j) (decimal i) (41 ∷ []) (ap (drop 2) both.1) in
       let same : j ≡ i = decimal_injective j i (omega (arith, h.2)) (omega (arith, k.2)) digits in
       ap (λ x. outputs x j) both.0 ∙ ap (outputs d) same
-  labels_apart (inputs c r) (outputs d j) h k e = absurd (clash (ap (byte_at 0) e))
-    where
-      clash : 105 ≡ 111 → ⊥
-      clash f = omega (arith, f)
-  labels_apart (outputs c j) (inputs d r) h k e = absurd (clash (ap (byte_at 0) e))
-    where
-      clash : 111 ≡ 105 → ⊥
-      clash f = omega (arith, f)
+  labels_apart (inputs c r) (outputs d j) h k e = absurd (apart_by 105 111 (λ f. omega (arith, f)) (ap (byte_at 0) e))
+  labels_apart (outputs c j) (inputs d r) h k e = absurd (apart_by 111 105 (λ f. omega (arith, f)) (ap (byte_at 0) e))
   labels_apart (overhears c j) b h k e = absurd h
   labels_apart (inputs c r) (overhears d j) h k e = absurd k
   labels_apart (outputs c i) (overhears d j) h k e = absurd k
@@ -114,26 +111,23 @@ pub record SameHeading (m n : Option ModelName) (r s : List ℕ) : Type 0 where
   pub model : m ≡ n
   pub rest : r ≡ s
 
-clash : (a b : ℕ) → a ≢ b → a ≡ b → ⊥
-clash a b h e = h e
-
 pub headings_apart : (m n : Option ModelName) (r s : List ℕ) → heading m r ≡ heading n s → SameHeading m n r s
 headings_apart None None r s e = record { model = refl; rest = ap (drop 8) e }
 headings_apart (Some Private) (Some Private) r s e = record { model = refl; rest = ap (drop 23) e }
 headings_apart (Some Classic) (Some Classic) r s e = record { model = refl; rest = ap (drop 23) e }
 headings_apart (Some Eavesdrop) (Some Eavesdrop) r s e = record { model = refl; rest = ap (drop 25) e }
-headings_apart None (Some Private) r s e = absurd (clash 49 50 (λ f. omega (arith, f)) (ap (byte_at 6) e))
-headings_apart None (Some Classic) r s e = absurd (clash 49 50 (λ f. omega (arith, f)) (ap (byte_at 6) e))
-headings_apart None (Some Eavesdrop) r s e = absurd (clash 49 50 (λ f. omega (arith, f)) (ap (byte_at 6) e))
-headings_apart (Some Private) None r s e = absurd (clash 50 49 (λ f. omega (arith, f)) (ap (byte_at 6) e))
-headings_apart (Some Classic) None r s e = absurd (clash 50 49 (λ f. omega (arith, f)) (ap (byte_at 6) e))
-headings_apart (Some Eavesdrop) None r s e = absurd (clash 50 49 (λ f. omega (arith, f)) (ap (byte_at 6) e))
-headings_apart (Some Private) (Some Classic) r s e = absurd (clash 112 99 (λ f. omega (arith, f)) (ap (byte_at 15) e))
-headings_apart (Some Private) (Some Eavesdrop) r s e = absurd (clash 112 101 (λ f. omega (arith, f)) (ap (byte_at 15) e))
-headings_apart (Some Classic) (Some Private) r s e = absurd (clash 99 112 (λ f. omega (arith, f)) (ap (byte_at 15) e))
-headings_apart (Some Classic) (Some Eavesdrop) r s e = absurd (clash 99 101 (λ f. omega (arith, f)) (ap (byte_at 15) e))
-headings_apart (Some Eavesdrop) (Some Private) r s e = absurd (clash 101 112 (λ f. omega (arith, f)) (ap (byte_at 15) e))
-headings_apart (Some Eavesdrop) (Some Classic) r s e = absurd (clash 101 99 (λ f. omega (arith, f)) (ap (byte_at 15) e))
+headings_apart None (Some Private) r s e = absurd (apart_by 49 50 (λ f. omega (arith, f)) (ap (byte_at 6) e))
+headings_apart None (Some Classic) r s e = absurd (apart_by 49 50 (λ f. omega (arith, f)) (ap (byte_at 6) e))
+headings_apart None (Some Eavesdrop) r s e = absurd (apart_by 49 50 (λ f. omega (arith, f)) (ap (byte_at 6) e))
+headings_apart (Some Private) None r s e = absurd (apart_by 50 49 (λ f. omega (arith, f)) (ap (byte_at 6) e))
+headings_apart (Some Classic) None r s e = absurd (apart_by 50 49 (λ f. omega (arith, f)) (ap (byte_at 6) e))
+headings_apart (Some Eavesdrop) None r s e = absurd (apart_by 50 49 (λ f. omega (arith, f)) (ap (byte_at 6) e))
+headings_apart (Some Private) (Some Classic) r s e = absurd (apart_by 112 99 (λ f. omega (arith, f)) (ap (byte_at 15) e))
+headings_apart (Some Private) (Some Eavesdrop) r s e = absurd (apart_by 112 101 (λ f. omega (arith, f)) (ap (byte_at 15) e))
+headings_apart (Some Classic) (Some Private) r s e = absurd (apart_by 99 112 (λ f. omega (arith, f)) (ap (byte_at 15) e))
+headings_apart (Some Classic) (Some Eavesdrop) r s e = absurd (apart_by 99 101 (λ f. omega (arith, f)) (ap (byte_at 15) e))
+headings_apart (Some Eavesdrop) (Some Private) r s e = absurd (apart_by 101 112 (λ f. omega (arith, f)) (ap (byte_at 15) e))
+headings_apart (Some Eavesdrop) (Some Classic) r s e = absurd (apart_by 101 99 (λ f. omega (arith, f)) (ap (byte_at 15) e))
 
 pub record SameSide (a b : Side) (r s : List ℕ) : Type 0 where
   pub side : a ≡ b
@@ -142,5 +136,5 @@ pub record SameSide (a b : Side) (r s : List ℕ) : Type 0 where
 pub sides_apart : (a b : Side) (r s : List ℕ) → line (side_line a) r ≡ line (side_line b) s → SameSide a b r s
 sides_apart Left Left r s e = record { side = refl; rest = ap (drop 11) e }
 sides_apart Right Right r s e = record { side = refl; rest = ap (drop 12) e }
-sides_apart Left Right r s e = absurd (clash 108 114 (λ f. omega (arith, f)) (ap (byte_at 6) e))
-sides_apart Right Left r s e = absurd (clash 114 108 (λ f. omega (arith, f)) (ap (byte_at 6) e))
+sides_apart Left Right r s e = absurd (apart_by 108 114 (λ f. omega (arith, f)) (ap (byte_at 6) e))
+sides_apart Right Left r s e = absurd (apart_by 114 108 (λ f. omega (arith, f)) (ap (byte_at 6) e))

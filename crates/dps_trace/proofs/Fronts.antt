@@ -1,5 +1,5 @@
 -- Bytes that begin with a front, or do not.
-use Rattle.std.proofs.Common.{◌≡◌, ◌≢◌, ℕ, zero, suc, ◌+◌, ◌<◌, ◌≤◌, Bool, true, false, List, [], ◌∷◌, ◌++◌, Option, Some, None, length, take, drop, get_or, codes, refl, ap, sym, subst, ◌∙◌, arith, length-append}
+use Rattle.std.proofs.Common.{◌≡◌, ◌≢◌, ℕ, zero, suc, ◌+◌, ◌<◌, ◌≤◌, Bool, true, false, List, [], ◌∷◌, ◌++◌, Option, Some, None, length, take, drop, get_or, codes, refl, ap, sym, subst, ◌∙◌, arith}
 use Rattle.std.specs.Prelude.{⊤, ◌==◌, slice_index}
 use Rattle.std.specs.Str.{bytes_eq}
 use Rattle.std.proofs.lemmas.Slice.Eq.{bytes_eq-Decides}
@@ -14,7 +14,7 @@ use Rattle.dps_trace.specs.declared.model.ModelName.{ModelName}
 use Rattle.dps_trace.specs.declared.model.ModelName.TheVariants.{Private, Classic, Eavesdrop}
 use Rattle.dps_trace.specs.Cut.{IsWithout, IsCut}
 use Rattle.dps_trace.specs.Text.{line, heading, model_line, side_line, first_header, second_header}
-use Rattle.dps_trace.specs.Faults.{BeginsWith, HasHeaderFault, HasModelFault, heading_lines}
+use Rattle.dps_trace.specs.Faults.{BeginsWith, HasHeaderFault, HasModelFault}
 
 pub front_found : (bytes front rest : List ℕ) → bytes_eq (take (length front) bytes) front ≡ true → rest ≡ drop (length front) bytes → bytes ≡ front ++ rest
 front_found bytes front rest e d =
@@ -81,24 +81,3 @@ pub cut_missing : (x : ℕ) (bytes : List ℕ) → Nowhere (Passes (is_byte x) b
 cut_missing x bytes h = without_by_index x bytes (λ k l e. h k (omega arith) l (eq-eqb (get_or bytes k 0) x e))
 
 pub ruleset for_cut = (cut_found, cut_missing)
-
--- what is behind a cut is shorter
-pub cut_shorter : (x : ℕ) (bytes front rest : List ℕ) → IsCut x bytes front rest → length rest < length bytes
-cut_shorter x bytes front rest h = omega (arith, ap length h.whole, length-append front (x ∷ rest))
-
-heading_room : (model : Option ModelName) (rest bytes : List ℕ) → bytes ≡ heading model rest → heading_lines model + 2 + length rest ≤ length bytes
-heading_room None rest bytes e = omega (arith, ap length e)
-heading_room (Some Private) rest bytes e = omega (arith, ap length e)
-heading_room (Some Classic) rest bytes e = omega (arith, ap length e)
-heading_room (Some Eavesdrop) rest bytes e = omega (arith, ap length e)
-
-side_room : (side : Side) (rest bytes : List ℕ) → bytes ≡ line (side_line side) rest → length rest ≤ length bytes
-side_room Left rest bytes e = omega (arith, ap length e)
-side_room Right rest bytes e = omega (arith, ap length e)
-
--- the numbers of the label lines are below the bound
-pub lines_room :
-    (model : Option ModelName) (side : Side) (lines most : ℕ) (bytes rest labels : List ℕ) → bytes ≡ heading model rest → lines ≡ heading_lines model
-    → rest ≡ line (side_line side) labels → length bytes < most → lines + 2 + length labels < most
-lines_room model side lines most bytes rest labels e n f l =
-    omega (arith, heading_room model rest bytes e, side_room side labels rest f, n, l)

@@ -14,3 +14,4 @@ pub mod Unbroken
 pub mod Apart
 pub mod OneTrace
 pub mod LinesRead
+pub mod LabelLike

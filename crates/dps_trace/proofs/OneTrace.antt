@@ -42,10 +42,10 @@ module _ (S : Signature) (spelled : IsSpelled S) where
   no_wrong_turn first at lines ls h e w = by_others (continues S spelled 0 w.labels ls w.rest w.written h (sym w.good ∙ e))
     where
       by_case : (m : ℕ) (zs : List Label) → AreWritten S m zs → w.rest ≡ label_lines S zs [] → BeginsOutOfTurn S m w.rest → ⊥
-      by_case m [] k f no = a_line_is_some (label_text S no.label) no.rest (sym no.text ∙ f)
-      by_case m (z ∷ zs) k f no =
-          let both = lines_apart S spelled no.label z no.rest (label_lines S zs []) no.over k.0 (sym no.text ∙ f) in
-          no.out_of_turn (subst (IsInTurn m) (sym both.0) k.1)
+      by_case m [] k f out = a_line_is_some (label_text S out.label) out.rest (sym out.text ∙ f)
+      by_case m (z ∷ zs) k f out =
+          let both = lines_apart S spelled out.label z out.rest (label_lines S zs []) out.over k.0 (sym out.text ∙ f) in
+          out.out_of_turn (subst (IsInTurn m) (sym both.0) k.1)
 
       by_others : Continues S spelled 0 w.labels ls w.rest → ⊥
       by_others c = by_case (outputs_after 0 w.labels) c.others c.written c.lines w.wrong
@@ -59,7 +59,7 @@ module _ (S : Signature) (spelled : IsSpelled S) where
       by_model (Some m) e = f.not_second_format (line (model_line m) (line (side_line t.side) (label_lines S t.labels [])), e)
   faulty_is_none bytes at kinds.Model f t h = by_model t.model (sym f.header ∙ h.text)
     where
-      one_is_two : 50 ≡ 49 → ⊥
+      one_is_two : ◌≡◌ {A = ℕ} 50 49 → ⊥
       one_is_two e = omega (arith, e)
 
       by_model : (m : Option ModelName) → line second_header f.rest ≡ heading m (line (side_line t.side) (label_lines S t.labels [])) → ⊥

@@ -4,7 +4,7 @@ use Rattle.std.specs.Prelude.{◌==◌, nat_le, nat_lt, unwrap_or, ⊤}
 use Rattle.std.specs.Str.{byte}
 use Rattle.std.specs.Option.{option_map}
 use Rattle.std.proofs.lemmas.Bool.Decides.{nat_tests}
-use Rattle.std.proofs.lemmas.Option.{slice_get-map}
+use Rattle.std.proofs.lemmas.Option.{slice_get-map, none-some}
 use Rattle.dps_terms.specs.declared.Sym.{Sym}
 use Rattle.dps_terms.specs.declared.PublicName.TheVariants.{Declared, At}
 use Rattle.dps_terms.specs.Tree.{Leaf, public, private, var, ax, entry, rigid, Tree, Trees, leaf, app, none, more, trees, count}
@@ -27,11 +27,11 @@ digit_small n b k e = grind (arith, nat_tests)
 
 numeral_small : (n k : ℕ) (digits : List ℕ) → n < 2 ^ 64 → numeral_from (Some n) digits ≡ Some k → k < 2 ^ 64
 numeral_small n k [] small e = omega (arith, some_same n k e)
-numeral_small n k (b ∷ digits) small e = go (longer n b) refl e
+numeral_small n k (b ∷ digits) small e = go (longer n b) refl (λ m f g. numeral_small m k digits (digit_small n b m f) g) e
   where
-    go : (x : Option ℕ) → longer n b ≡ x → numeral_from x digits ≡ Some k → k < 2 ^ 64
-    go None f g = cc
-    go (Some m) f g = numeral_small m k digits (digit_small n b m f) g
+    go : (x : Option ℕ) → longer n b ≡ x → ((m : ℕ) → longer n b ≡ Some m → numeral_from (Some m) digits ≡ Some k → k < 2 ^ 64) → numeral_from x digits ≡ Some k → k < 2 ^ 64
+    go None f later g = absurd (none-some k g)
+    go (Some m) f later g = later m f g
 
 module _ (S : Signature) where
   -- trees that are recipes over the signature
@@ -104,8 +104,8 @@ module _ (S : Signature) where
       let high : i < 2 ^ 32 = grind (arith, nat_tests, h.0) in (omega (arith, same, low), omega (arith, same, high))
 
   pub handle_small : (w : List ℕ) (j : ℕ) → handle_read w ≡ Some j → (1 ≤ j) × (j < 2 ^ 32)
-  handle_small [] j e = cc
-  handle_small (a ∷ []) j e = cc
+  handle_small [] j e = absurd (none-some j e)
+  handle_small (a ∷ []) j e = absurd (none-some j (if_some (a == byte "a") None j e).1)
   handle_small (a ∷ x ∷ digits) j e =
       in_range (numeral digits) j (if_some (x == byte "x") (handle_of (numeral digits)) j (if_some (a == byte "a") (behind_a (x ∷ digits)) j e).1).1
 
@@ -132,7 +132,7 @@ module _ (S : Signature) where
       let few : r.arity ≤ 8 = grind (arith, nat_tests, k.0) in
       let enough : r.arity ≤ length r.terms = grind (arith, nat_tests, k.0) in
       let all : AllOver made.terms =
-          ((subst (IsWrittenSymbol S (record { number = f })) (sym (count_taken r.arity r.terms enough)) (there, few), over_taken r.arity r.terms h), over_dropped r.arity r.terms h) in
+      ((subst (IsWrittenSymbol S (record { number = f })) (sym (count_taken r.arity r.terms enough)) (there, few), over_taken r.arity r.terms h), over_dropped r.arity r.terms h) in
       subst (λ (q : Reading). AllOver q.terms) (some_same made next k.1) all
 
   word_over : (w : List ℕ) (r next : Reading) → AllOver r.terms → with_word S w r ≡ Some next → AllOver next.terms

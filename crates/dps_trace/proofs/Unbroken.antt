@@ -1,12 +1,12 @@
 -- No newline stands in the text of a label.
-use Rattle.std.proofs.Common.{◌≡◌, ◌≢◌, ℕ, ◌<◌, ◌≤◌, ◌^◌, true, ◌⊎◌, inl, inr, List, [], ◌∷◌, ◌++◌, Some, refl, sym, subst, codes, arith, slice_get}
+use Rattle.std.proofs.Common.{◌≡◌, ◌≢◌, ℕ, ◌+◌, ◌<◌, ◌≤◌, ◌^◌, true, ◌⊎◌, inl, inr, List, [], ◌∷◌, ◌++◌, Some, refl, sym, subst, codes, arith, slice_get}
 use Rattle.std.specs.List.{list_all}
 use Rattle.std.specs.Fmt.{decimal}
 use Rattle.std.proofs.lemmas.Bool.Decides.{nat_tests}
 use Rattle.std.proofs.lemmas.List.Sums.{list_all-from_AllPass}
 use Rattle.dps_terms.specs.declared.Sym.{Sym}
 use Rattle.dps_terms.specs.declared.PublicName.TheVariants.{Declared, At}
-use Rattle.dps_terms.specs.Tree.{Leaf, public, private, var, ax, entry, rigid, Tree, Trees, leaf, app, none, more}
+use Rattle.dps_terms.specs.Tree.{Leaf, public, private, var, ax, entry, rigid, Tree, Trees, leaf, app, none, more, count}
 use Rattle.dps_terms.specs.Kinds.{IsBuiltOf, AreBuiltOf}
 use Rattle.dps_signature.specs.Signature.{Symbol, Signature, IsPublic}
 use Rattle.dps_signature.specs.Names.{is_letter, is_name_byte, IsWord, IsSymbolText}
@@ -24,10 +24,10 @@ without-append x [] ys h k = k
 without-append x (b ∷ xs) ys h k = (h.0, without-append x xs ys h.1 k)
 
 name_byte : (b : ℕ) → is_name_byte b ≡ true → b ≢ 10
-name_byte b h e = grind (arith, nat_tests, h, e)
+name_byte b h e = let f : is_name_byte 10 ≡ true = subst (λ x. is_name_byte x ≡ true) e h in cc
 
 letter_byte : (b : ℕ) → is_letter b ≡ true → b ≢ 10
-letter_byte b h e = grind (arith, nat_tests, h, e)
+letter_byte b h e = let f : is_letter 10 ≡ true = subst (λ x. is_letter x ≡ true) e h in cc
 
 name_bytes : (bs : List ℕ) → list_all is_name_byte bs ≡ true → IsWithout 10 bs
 name_bytes [] h = tt
@@ -55,7 +55,7 @@ module _ (S : Signature) (spelled : IsSpelled S) where
   leaf_unbroken (public (At k)) h = ((λ e. omega (arith, e)), decimal_unbroken k h)
   leaf_unbroken (private n) h = absurd h
   leaf_unbroken (var n) h = absurd h
-  leaf_unbroken (ax j) h = ((λ e. omega (arith, e)), (λ e. omega (arith, e)), decimal_unbroken j (omega (arith, h.1)))
+  leaf_unbroken (ax j) h = ((λ e. omega (arith, e)), ((λ e. omega (arith, e)), decimal_unbroken j (omega (arith, h.1))))
   leaf_unbroken (entry n) h = absurd h
   leaf_unbroken (rigid n) h = absurd h
 
@@ -75,10 +75,11 @@ module _ (S : Signature) (spelled : IsSpelled S) where
     recipe_unbroken (app f none) h = without-append 10 (root_text S f) [] (root_unbroken f 0 h.0) tt
     recipe_unbroken (app f (more t ts)) h =
         without-append 10 (root_text S f) (40 ∷ (term_text S t ++ (after_commas (texts_with (leaf_text S) S ts) ++ 41 ∷ [])))
-          (root_unbroken f _ h.0)
-          ((λ e. omega (arith, e)),
-            without-append 10 (term_text S t) (after_commas (texts_with (leaf_text S) S ts) ++ 41 ∷ []) (recipe_unbroken t h.1.0)
-              (without-append 10 (after_commas (texts_with (leaf_text S) S ts)) (41 ∷ []) (recipes_unbroken ts h.1.1) ((λ e. omega (arith, e)), tt)))
+        (root_unbroken f (1 + count ts) h.0) (
+          (λ e. omega (arith, e)),
+          without-append 10 (term_text S t) (after_commas (texts_with (leaf_text S) S ts) ++ 41 ∷ []) (recipe_unbroken t h.1.0)
+              (without-append 10 (after_commas (texts_with (leaf_text S) S ts)) (41 ∷ []) (recipes_unbroken ts h.1.1) ((λ e. omega (arith, e)), tt)),
+        )
 
     recipes_unbroken : (ts : Trees) → AreBuiltOf (IsWrittenLeaf S) (IsWrittenSymbol S) ts → IsWithout 10 (after_commas (texts_with (leaf_text S) S ts))
     recipes_unbroken none h = tt
@@ -87,12 +88,21 @@ module _ (S : Signature) (spelled : IsSpelled S) where
 
   pub label_unbroken : (a : Label) → IsWrittenLabel S a → IsWithout 10 (label_text S a)
   label_unbroken (inputs c r) h =
-      ((λ e. omega (arith, e)), (λ e. omega (arith, e)), (λ e. omega (arith, e)),
-        without-append 10 (name_text S c) (44 ∷ (term_text S r ++ 41 ∷ [])) (name_unbroken c h.0)
-          ((λ e. omega (arith, e)), without-append 10 (term_text S r) (41 ∷ []) (recipe_unbroken r h.1) ((λ e. omega (arith, e)), tt)))
+      without-append 10 (codes "in(") (name_text S c ++ (44 ∷ (term_text S r ++ 41 ∷ []))) opening
+      (without-append 10 (name_text S c) (44 ∷ (term_text S r ++ 41 ∷ [])) (name_unbroken c h.0)
+      ((λ e. omega (arith, e)), without-append 10 (term_text S r) (41 ∷ []) (recipe_unbroken r h.1) ((λ e. omega (arith, e)), tt)))
+    where
+      opening : IsWithout 10 (codes "in(")
+      opening = ((λ e. omega (arith, e)), ((λ e. omega (arith, e)), ((λ e. omega (arith, e)), tt)))
   label_unbroken (outputs c j) h =
-      ((λ e. omega (arith, e)), (λ e. omega (arith, e)), (λ e. omega (arith, e)), (λ e. omega (arith, e)),
-        without-append 10 (name_text S c) (44 ∷ 97 ∷ 120 ∷ (decimal j ++ 41 ∷ [])) (name_unbroken c h.0)
-          ((λ e. omega (arith, e)), (λ e. omega (arith, e)), (λ e. omega (arith, e)),
-            without-append 10 (decimal j) (41 ∷ []) (decimal_unbroken j (omega (arith, h.2))) ((λ e. omega (arith, e)), tt)))
+      without-append 10 (codes "out(") (name_text S c ++ (codes ",ax" ++ (decimal j ++ 41 ∷ []))) opening
+      (without-append 10 (name_text S c) (codes ",ax" ++ (decimal j ++ 41 ∷ [])) (name_unbroken c h.0)
+      (without-append 10 (codes ",ax") (decimal j ++ 41 ∷ []) handle
+      (without-append 10 (decimal j) (41 ∷ []) (decimal_unbroken j (omega (arith, h.2))) ((λ e. omega (arith, e)), tt))))
+    where
+      opening : IsWithout 10 (codes "out(")
+      opening = ((λ e. omega (arith, e)), ((λ e. omega (arith, e)), ((λ e. omega (arith, e)), ((λ e. omega (arith, e)), tt))))
+
+      handle : IsWithout 10 (codes ",ax")
+      handle = ((λ e. omega (arith, e)), ((λ e. omega (arith, e)), ((λ e. omega (arith, e)), tt)))
   label_unbroken (overhears c j) h = absurd h

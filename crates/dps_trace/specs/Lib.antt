@@ -8,3 +8,4 @@ pub mod Values
 pub mod Scanning
 pub mod Told
 pub mod StoredReading
+pub mod LawsOfTexts

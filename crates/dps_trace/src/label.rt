@@ -20,6 +20,7 @@ use dps_terms::NoMemory;
 use std::alloc::Global;
 
 /// The label over the signature with this text.
+#[tactic(auto, using(crate::proofs::LabelLike::other_text))]
 pub(crate) fn read_label(
     alloc: Global,
     signature: &Signature,
@@ -42,11 +43,8 @@ pub(crate) fn read_label(
 }
 
 /// The label that alone may have this text.
-fn label_like(
-    alloc: Global,
-    signature: &Signature,
-    line: &[u8],
-) -> Result<Option<Label>, NoMemory>
+#[tactic(auto, using(crate::proofs::LabelLike::of_none))]
+fn label_like(alloc: Global, signature: &Signature, line: &[u8]) -> Result<Option<Label>, NoMemory>
     requires { IsSpelled signature.now }
     ensures written { IfOk result (λ found. IfSome found (λ label. IsWrittenLabel signature.now (label_of label))) }
     ensures only { (label : SeenLabel) → IsWrittenLabel signature.now label → line.now ≡ label_text signature.now label → IfOk result (λ found. option_map label_of found ≡ Some label) }
@@ -61,11 +59,8 @@ fn label_like(
 }
 
 /// The input of which this may be what is written behind `in(`.
-fn input_like(
-    alloc: Global,
-    signature: &Signature,
-    rest: &[u8],
-) -> Result<Option<Label>, NoMemory>
+#[tactic(auto, using(crate::proofs::LabelLike::for_input_like))]
+fn input_like(alloc: Global, signature: &Signature, rest: &[u8]) -> Result<Option<Label>, NoMemory>
     requires { IsSpelled signature.now }
     ensures written { IfOk result (λ found. IfSome found (λ label. IsWrittenLabel signature.now (label_of label))) }
     ensures only { (c : ℕ) (r : Tree) → IsWrittenLabel signature.now (inputs c r) → rest.now ≡ name_text signature.now c ++ (codes "," ++ (term_text signature.now r ++ codes ")")) → IfOk result (λ found. option_map label_of found ≡ Some (inputs c r)) }
@@ -80,6 +75,7 @@ fn input_like(
 }
 
 /// The output of which this may be what is written behind `out(`.
+#[tactic(auto, using(crate::proofs::LabelLike::for_output_like))]
 fn output_like(signature: &Signature, rest: &[u8]) -> Option<Label>
     requires { IsSpelled signature.now }
     ensures written { IfSome result (λ label. IsWrittenLabel signature.now (label_of label)) }
@@ -95,6 +91,7 @@ fn output_like(signature: &Signature, rest: &[u8]) -> Option<Label>
 }
 
 /// The public channel up to the first comma, and what stands between that comma and the last byte.
+#[tactic(auto, using(crate::proofs::Labels::for_split_channel))]
 fn split_channel<'a>(signature: &Signature, text: &'a [u8]) -> Option<(u32, &'a [u8])>
     requires { IsSpelled signature.now }
     ensures public { IfSome result (λ p. IsPublic signature.now p.0) }

@@ -6,6 +6,7 @@
 
 mod fault;
 mod label;
+pub mod laws;
 mod lines;
 mod model;
 mod printing;

@@ -112,11 +112,7 @@ fn write_labels(
 ///
 /// It fails for want of memory alone. Where the labels may stand in a trace, the text is read again as this trace.
 #[tactic(auto, using(crate::proofs::EachLine::whole_text))]
-pub fn print_trace(
-    alloc: Global,
-    signature: &Signature,
-    trace: &Trace,
-) -> Result<String, NoMemory>
+pub fn print_trace(alloc: Global, signature: &Signature, trace: &Trace) -> Result<String, NoMemory>
     ensures { IfOk result (λ text. string_bytes text ≡ trace_text signature.now trace.now) }
 {
     let mut text = String::new(alloc);

@@ -21,11 +21,7 @@ use std::alloc::Global;
 /// There are fewer than 2^32 - 1 newlines. `Fault` comes exactly where the bytes are no trace's text, with the first line that
 /// is wrong. `Memory` where memory was wanting.
 #[tactic(auto, using(crate::proofs::LinesRead::for_read_trace))]
-pub fn read_trace(
-    alloc: Global,
-    signature: &Signature,
-    bytes: &[u8],
-) -> Result<Trace, TraceRefusal>
+pub fn read_trace(alloc: Global, signature: &Signature, bytes: &[u8]) -> Result<Trace, TraceRefusal>
     requires { newlines bytes.now + 1 < 2 ^ 32 }
     ensures read { IfOk result (λ trace. IsTraceText signature.now trace bytes.now) }
     ensures fault { IfErr result (λ refusal. IsRefusedFor signature.now bytes.now refusal) }
@@ -76,8 +72,9 @@ fn read_labels(
                 outputs = outputs_behind(&label, outputs);
                 line += 1;
                 rest = behind;
-                if labels.push(label).is_err() {
-                    return Err(TraceRefusal::Memory);
+                match labels.push(label) {
+                    Err(_) => return Err(TraceRefusal::Memory),
+                    Ok(()) => {}
                 }
             }
         }
@@ -99,19 +96,22 @@ fn next_label<'a>(
     ensures fault { IfErr result (IsWrongNext signature.now line outputs rest.now) }
 {
     let Some((text, behind)) = cut(b'\n', rest) else {
-        return Err(fault(line, TraceKind::Label));
+        return Err(TraceRefusal::Fault {
+            line,
+            kind: TraceKind::Label,
+        });
     };
     let Some(label) = read_label(alloc, signature, text)? else {
-        return Err(fault(line, TraceKind::Label));
+        return Err(TraceRefusal::Fault {
+            line,
+            kind: TraceKind::Label,
+        });
     };
     if !is_in_turn(&label, outputs) {
-        return Err(fault(line, TraceKind::Ax));
+        return Err(TraceRefusal::Fault {
+            line,
+            kind: TraceKind::Ax,
+        });
     }
     Ok((label, behind))
-}
-
-fn fault(line: u32, kind: TraceKind) -> TraceRefusal
-    ensures { result ≡ TraceRefusal.Fault line kind }
-{
-    TraceRefusal::Fault { line, kind }
 }

@@ -1,5 +1,0 @@
-pub mod Outcomes
-pub mod Reports
-pub mod Named
-pub mod Stored
-pub mod Finding
