@@ -108,11 +108,11 @@ module _ (S : Signature) (L : Leaf → Type 0) (F : Sym → ℕ → Type 0) wher
       tree_scanned (app f (more t ts)) ks us h =
           ap (flushed S) (scanned-append S (root_text S f) (codes "(" ++ (term_text S t ++ (after_commas (texts_with (leaf_text S) S ts) ++ codes ")"))) (fresh ks us))
           ∙ ap (λ x. flushed S (scanned S (root_text S f) x))
-              (at_opening S (scanned S (term_text S t ++ (after_commas (texts_with (leaf_text S) S ts) ++ codes ")")) (fresh ks us))
-              ∙ ap (λ x. between (behind_word 40 x))
-                  (ap (flushed S) (scanned-append S (term_text S t) (after_commas (texts_with (leaf_text S) S ts) ++ codes ")") (fresh ks us))
-                  ∙ ap (λ x. flushed S (scanned S (term_text S t) x)) (rest_scanned ts ks us few h.1.1)
-                  ∙ tree_scanned t ((1 + count ts) ∷ ks) (list_of ts ++ us) h.1.0))
+          (at_opening S (scanned S (term_text S t ++ (after_commas (texts_with (leaf_text S) S ts) ++ codes ")")) (fresh ks us))
+          ∙ ap (λ x. between (behind_word 40 x))
+          (ap (flushed S) (scanned-append S (term_text S t) (after_commas (texts_with (leaf_text S) S ts) ++ codes ")") (fresh ks us))
+          ∙ ap (λ x. flushed S (scanned S (term_text S t) x)) (rest_scanned ts ks us few h.1.1)
+          ∙ tree_scanned t ((1 + count ts) ∷ ks) (list_of ts ++ us) h.1.0))
           ∙ root_scanned f (more t ts) ks us (1 + count ts) refl h.0
         where
           few : (1 + count ts) ≤ 8
@@ -127,9 +127,9 @@ module _ (S : Signature) (L : Leaf → Type 0) (F : Sym → ℕ → Type 0) wher
           ap (λ w. scanned S (44 ∷ w) (fresh ks us)) (append_assoc (term_text S t) (after_commas (texts_with (leaf_text S) S ts)) (codes ")"))
           ∙ at_comma S (scanned S (term_text S t ++ (after_commas (texts_with (leaf_text S) S ts) ++ codes ")")) (fresh ks us))
           ∙ ap (λ x. between (behind_word 44 x))
-              (ap (flushed S) (scanned-append S (term_text S t) (after_commas (texts_with (leaf_text S) S ts) ++ codes ")") (fresh ks us))
-              ∙ ap (λ x. flushed S (scanned S (term_text S t) x)) (rest_scanned ts ks us (omega (arith, few)) h.1)
-              ∙ tree_scanned t ((1 + count ts) ∷ ks) (list_of ts ++ us) h.0)
+          (ap (flushed S) (scanned-append S (term_text S t) (after_commas (texts_with (leaf_text S) S ts) ++ codes ")") (fresh ks us))
+          ∙ ap (λ x. flushed S (scanned S (term_text S t) x)) (rest_scanned ts ks us (omega (arith, few)) h.1)
+          ∙ tree_scanned t ((1 + count ts) ∷ ks) (list_of ts ++ us) h.0)
           ∙ one_more (1 + count ts) ks (t ∷ (list_of ts ++ us)) (omega (arith, few))
 
     -- the whole text

@@ -42,8 +42,7 @@ low_bytes bs h = IsUtf8-from_ascii bs (IsAscii-from_all bs h)
 pub word_bytes : (text : List ℕ) → IsWord text → IsUnsigned text × IsUtf8 text
 word_bytes [] h = absurd h
 word_bytes (b ∷ bs) h =
-    let one = name_byte b (letter_byte b h.0) in
-    (
+    let one = name_byte b (letter_byte b h.0) in (
       (one.0, names_unsigned bs (list_all-from_AllPass is_name_byte bs h.1)),
       low_bytes (b ∷ bs) (All-cons (λ x. x < 128) b bs one.1 (λ k d l. (name_byte (slice_index_or bs k d) (h.1 k d l)).1)),
     )
@@ -86,7 +85,7 @@ pub record IsNoText (text : List ℕ) : Type 0 where
   pub no_tuple : (kind : SymKind) (n : ℕ) → ¬ IsTupleSymbol text kind n
 
 pub no_symbol : (S : Signature) (text : List ℕ) → IsSpelled S → IsNoText text → symbol_named S text ≡ None
-no_symbol S text spelled not_text = is_none (symbol_named S text) (λ i e. 
+no_symbol S text spelled not_text = is_none (symbol_named S text) (λ i e.
     let found = found_symbol S text i e in
     fails found.0 (subst (λ t. IsSymbolText t found.0.kind found.0.arity) (sym found.1.1) (spelled.symbol_texts i found.0 found.1.0)))
   where

@@ -63,13 +63,13 @@ module _ (S : Signature) (spelled : IsSpelled S) where
   leaf_reads (public (Declared n)) ks us h =
       ap (λ w. with_word S w (record { brackets = ks; arity = 0; terms = us })) (name_is n h)
       ∙ leaf_word h.0 (public (Declared n)) ks us
-          (no_symbol_read h.0 (spelled.apart n (record { name = h.0; is_private = false }) h.1))
-          (ap (or_mark h.0) (public_read n h))
+      (no_symbol_read h.0 (spelled.apart n (record { name = h.0; is_private = false }) h.1))
+      (ap (or_mark h.0) (public_read n h))
   leaf_reads (public (At k)) ks us h =
       let w = 64 ∷ decimal k in
       leaf_word w (public (At k)) ks us
-          (no_symbol_read w (no_symbol S w spelled (own_no_text (decimal k))))
-          (ap (or_mark w) (ap (public_if S) (no_name S w spelled (own_no_text (decimal k)))) ∙ ap (or_own w) (numeral-decimal k h))
+      (no_symbol_read w (no_symbol S w spelled (own_no_text (decimal k))))
+      (ap (or_mark w) (ap (public_if S) (no_name S w spelled (own_no_text (decimal k)))) ∙ ap (or_own w) (numeral-decimal k h))
   leaf_reads (private n) ks us h = absurd h
   leaf_reads (var n) ks us h = absurd h
   leaf_reads (ax j) ks us h =
@@ -77,10 +77,10 @@ module _ (S : Signature) (spelled : IsSpelled S) where
       let low : j < 2 ^ 64 = omega (arith, h.1) in
       let no : IsNoText w = handle_no_text (decimal j) (decimal_nonempty j low) (decimal_digits j low) in
       leaf_word w (ax j) ks us
-          (no_symbol_read w (no_symbol S w spelled no))
-          (ap (or_mark w) (ap (public_if S) (no_name S w spelled no))
-          ∙ ap (λ x. or_handle (handle_of x)) (numeral-decimal j low)
-          ∙ ap or_handle (in_range j h.0 h.1))
+      (no_symbol_read w (no_symbol S w spelled no))
+      (ap (or_mark w) (ap (public_if S) (no_name S w spelled no))
+      ∙ ap (λ x. or_handle (handle_of x)) (numeral-decimal j low)
+      ∙ ap or_handle (in_range j h.0 h.1))
   leaf_reads (entry n) ks us h = absurd h
   leaf_reads (rigid n) ks us h = absurd h
 

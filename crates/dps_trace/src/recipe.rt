@@ -132,12 +132,7 @@ impl Reading {
     }
 
     /// Reads a word, and the sign before it. False where one of them may not stand there.
-    fn read_sign(
-        &mut self,
-        signature: &Signature,
-        sign: u8,
-        word: &[u8],
-    ) -> Result<bool, NoMemory>
+    fn read_sign(&mut self, signature: &Signature, sign: u8, word: &[u8]) -> Result<bool, NoMemory>
         ensures { IfOk result (λ read. told read self.new ≡ with_sign signature.now sign word.now self.old) }
     {
         if sign == b')' {

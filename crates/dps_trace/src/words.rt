@@ -24,7 +24,7 @@ fn longer(number: u64, digit: u8) -> Option<u64>
     Some(next as u64)
 }
 
-/// The number of these digits, where it is below 2^64. Zeros may lead.
+/// The number of these digits, where it is below 2^64. Zeros may lead, and no digits at all are 0.
 pub fn numeral(digits: &[u8]) -> Option<u64>
     ensures { result ≡ numeral digits.now }
 {
