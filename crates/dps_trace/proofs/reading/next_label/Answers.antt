@@ -9,4 +9,4 @@ returns-in_default-clause-fault c = no_line c.args.signature.now c.args.line c.a
 pub returns-in_default-2-clause-fault : goal.returns-in_default-2-clause-fault
 returns-in_default-2-clause-fault c =
     no_label c.args.signature.now c.requires c.args.line c.args.outputs c.args.rest.now c.in-Some.text.now c.in-Some.behind.now c.in-Some.ensures.found
-      (λ label h e. ap (option_map label_of) (sym c.in_default-2.is) ∙ c.in_ok-label.ensures.only label h e)
+    (λ label h e. ap (option_map label_of) (sym c.in_default-2.is) ∙ c.in_ok-label.ensures.only label h e)
