@@ -1,0 +1,17 @@
+pub mod Cuts
+pub mod Digits
+pub mod Fronts
+pub mod Handles
+pub mod Labels
+pub mod EachLine
+pub mod Backward
+pub mod ReadWord
+pub mod Scanned
+pub mod Sound
+pub mod Spelling
+pub mod WordsRead
+pub mod Unbroken
+pub mod Apart
+pub mod OneTrace
+pub mod LinesRead
+pub mod LabelLike

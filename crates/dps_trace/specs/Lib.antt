@@ -1,0 +1,11 @@
+pub mod Cut
+pub mod Written
+pub mod Text
+pub mod Traces
+pub mod Faults
+pub mod Stored
+pub mod Values
+pub mod Scanning
+pub mod Told
+pub mod StoredReading
+pub mod LawsOfTexts
