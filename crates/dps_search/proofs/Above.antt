@@ -1,5 +1,5 @@
 -- The least number above others.
-use Rattle.std.proofs.Common.{◌≡◌, ℕ, zero, suc, ◌+◌, ◌<◌, ◌≤◌, max, Bool, true, false, cond, List, [], ◌∷◌, ◌++◌, length, map, get_or, take, drop, Option, Some, None, Contains, refl, sym, ◌∙◌, ap, arith, add-one, drop-cons, inl, inr, append_assoc}
+use Rattle.std.proofs.Common.{◌≡◌, ℕ, suc, ◌+◌, ◌<◌, max, List, [], ◌∷◌, ◌++◌, length, map, get_or, take, drop, Option, Some, None, refl, sym, ◌∙◌, ap, arith, add-one, drop-cons, append_assoc}
 use Rattle.std.specs.List.{flat_map, filter_map, cons_option}
 use Rattle.dps_terms.specs.Tree.{Tree}
 use Rattle.dps_terms.specs.declared.borrowed.TermView.TheVariants.{Var}

@@ -1,7 +1,7 @@
 -- The start, the turns and the end, on an agenda that is kept backwards.
-use Rattle.std.proofs.Common.{◌≡◌, ℕ, ◌+◌, ◌-◌, ◌<◌, ◌≤◌, Bool, true, List, [], ◌∷◌, ◌++◌, length, map, Option, Some, None, refl, sym, ◌∙◌, ap, subst, subst₂, arith}
+use Rattle.std.proofs.Common.{◌≡◌, ℕ, ◌+◌, ◌-◌, ◌≤◌, Bool, List, [], ◌∷◌, ◌++◌, length, map, Option, Some, None, refl, sym, ◌∙◌, ap, subst, subst₂, arith}
 use Rattle.std.specs.Prelude.{◌↔◌, reverse}
-use Rattle.dps_terms.specs.Tree.{Tree, leaf, var}
+use Rattle.dps_terms.specs.Tree.{Tree}
 use Rattle.dps_terms.specs.Bindings.{image}
 use Rattle.dps_unify.specs.Unifier.{IsNotUnifiable}
 use Rattle.dps_solver.specs.Scene.{Scene, Ask}
@@ -12,7 +12,7 @@ use Rattle.dps_search.specs.declared.branch.Branch.{Branch as CodeBranch}
 use Rattle.dps_search.specs.declared.task.Task.{Task}
 use Rattle.dps_search.specs.declared.task.Turn.{Turn}
 use Rattle.dps_search.specs.declared.task.Turn.TheVariants.{Ended, Moved, Branched}
-use Rattle.dps_search.specs.Code.{branch_of, solution_seen}
+use Rattle.dps_search.specs.Code.{solution_seen}
 use Rattle.dps_search.specs.Putting.{IsUnifiedBy}
 use Rattle.dps_search.specs.Tasks.{IsTurn}
 use Rattle.dps_search.specs.Agenda.{IsStart, IsBegin, IsAdvance, TakesMove}

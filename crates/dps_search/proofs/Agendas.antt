@@ -1,5 +1,5 @@
 -- What an agenda lists, turn by turn.
-use Rattle.std.proofs.Common.{◌≡◌, ℕ, ◌+◌, ◌-◌, ◌<◌, ◌≤◌, Bool, true, List, [], ◌∷◌, ◌++◌, map, Option, Some, None, refl, sym, ◌∙◌, ap, subst, subst₂, arith, append_assoc}
+use Rattle.std.proofs.Common.{◌≡◌, ℕ, ◌+◌, ◌<◌, ◌≤◌, List, [], ◌∷◌, ◌++◌, map, Option, Some, None, refl, sym, ◌∙◌, ap, subst, subst₂, arith, append_assoc}
 use Rattle.std.specs.Prelude.{◌↔◌, reverse}
 use Rattle.std.proofs.lemmas.List.{map-append, reverse-append}
 use Rattle.dps_terms.specs.Tree.{Tree}
@@ -7,7 +7,7 @@ use Rattle.dps_terms.specs.Bindings.{image}
 use Rattle.dps_unify.specs.Unifier.{IsNotUnifiable}
 use Rattle.dps_solver.specs.Scene.{Scene, Ask}
 use Rattle.dps_solver.specs.Solutions.{identity}
-use Rattle.dps_solver.specs.Search.{GeneralSolution, Branch, with_bound, unbound, Lists, Finds, unsolvable, starts, IsFoundWithin}
+use Rattle.dps_solver.specs.Search.{GeneralSolution, Branch, with_bound, unbound, Lists, Finds, unsolvable, starts}
 use Rattle.dps_solver.proofs.Once.{after_unifier}
 use Rattle.dps_search.specs.declared.scene.Mgs.{Mgs}
 use Rattle.dps_search.specs.declared.branch.Branch.{Branch as CodeBranch}

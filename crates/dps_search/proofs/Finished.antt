@@ -1,17 +1,14 @@
 -- What a branch without targets gives.
-use Rattle.std.proofs.Common.{◌≡◌, ℕ, zero, suc, ◌+◌, ◌<◌, ◌≤◌, Bool, true, false, cond, nat_eq, List, [], ◌∷◌, ◌++◌, length, map, slice_get, take, Option, Some, None, IsTrue, refl, sym, ◌∙◌, ap, subst, arith, inl, inr, add-one}
-use Rattle.std.specs.Prelude.{All, Any, ◌↔◌, is_some, unwrap_or, filter, not}
-use Rattle.std.proofs.lemmas.Bool.{cases_Bool, eqb-true, eq-eqb}
+use Rattle.std.proofs.Common.{◌≡◌, ℕ, zero, suc, ◌+◌, ◌≤◌, Bool, true, false, cond, nat_eq, List, [], ◌∷◌, ◌++◌, length, slice_get, take, Option, Some, None, IsTrue, refl, sym, ◌∙◌, ap, arith, add-one}
+use Rattle.std.specs.Prelude.{All, ◌↔◌, unwrap_or, filter, not}
+use Rattle.std.proofs.lemmas.Bool.{eqb-true}
 use Rattle.std.proofs.lemmas.Option.{none-some, slice_get_within}
 use Rattle.dps_terms.specs.Tree.{var, Tree, leaf}
-use Rattle.dps_terms.specs.Replace.{substitute}
 use Rattle.dps_terms.specs.Bindings.{bound, image, IsDistinct}
 use Rattle.dps_terms.proofs.Bound.{unbound_before}
-use Rattle.dps_unify.specs.Order.{level_of}
-use Rattle.dps_know.specs.Know.{IsNormal, compositions}
 use Rattle.dps_know.proofs.Listing.{all_of}
-use Rattle.dps_solver.specs.Scene.{System, Disequation}
-use Rattle.dps_solver.specs.Solutions.{Respects, IsMatchedUnder}
+use Rattle.dps_solver.specs.Scene.{Disequation}
+use Rattle.dps_solver.specs.Solutions.{IsMatchedUnder}
 use Rattle.dps_solver.specs.Matched.{IsExcluded}
 use Rattle.dps_solver.proofs.Each.{all_in, contains_at, place_in, HoldsOfFirst}
 

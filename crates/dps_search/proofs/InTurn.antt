@@ -1,5 +1,5 @@
 -- Pieces that are put one after the other.
-use Rattle.std.proofs.Common.{◌≡◌, ℕ, zero, suc, ◌+◌, ◌<◌, ◌≤◌, Bool, true, false, cond, nat_eq, List, [], ◌∷◌, ◌++◌, length, map, take, drop, get_or, Option, Some, None, refl, sym, ◌∙◌, ap, arith, add-one, drop-cons, length-append}
+use Rattle.std.proofs.Common.{◌≡◌, ℕ, zero, suc, ◌+◌, ◌<◌, ◌≤◌, Bool, true, false, cond, nat_eq, List, [], ◌∷◌, ◌++◌, length, map, take, drop, get_or, Some, None, refl, sym, ◌∙◌, ap, arith, add-one, drop-cons, length-append}
 use Rattle.std.specs.Prelude.{unwrap_or}
 use Rattle.std.specs.List.{range_with_len}
 use Rattle.std.proofs.lemmas.List.{map-append, drop_all}
@@ -7,7 +7,7 @@ use Rattle.std.proofs.lemmas.List.FromFn.{length-map-range_with_len}
 use Rattle.dps_terms.specs.declared.Sym.{Sym}
 use Rattle.dps_terms.specs.Tree.{var, Tree, leaf, app, trees}
 use Rattle.dps_terms.specs.Replace.{substitute, variables_to}
-use Rattle.dps_terms.specs.Bindings.{bound, image}
+use Rattle.dps_terms.specs.Bindings.{image}
 use Rattle.dps_terms.proofs.Arguments.{replace_trees}
 use Rattle.dps_unify.proofs.Trees.{substitute_in_turn, substitute_itself}
 use Rattle.dps_solver.specs.Search.{then_put}

@@ -4,9 +4,9 @@ use Rattle.std.specs.List.{flat_map}
 use Rattle.std.proofs.lemmas.Grind.{flat_map-append}
 use Rattle.std.proofs.lemmas.List.{take-append-drop, append-nil}
 use Rattle.dps_terms.specs.declared.borrowed.TermView.TheVariants.{Var}
-use Rattle.dps_terms.specs.Tree.{public, private, var, ax, entry, rigid, Tree, Trees, leaf, app, none, more, list_of, StandsIn}
+use Rattle.dps_terms.specs.Tree.{public, private, var, ax, entry, rigid, Tree, Trees, leaf, app, none, more, list_of}
 use Rattle.dps_terms.specs.Kinds.{IsClosed}
-use Rattle.dps_terms.specs.Variables.{variable_of, occurrences, all_occurrences, each_once, variables}
+use Rattle.dps_terms.specs.Variables.{occurrences, all_occurrences, each_once, variables}
 use Rattle.dps_terms.specs.Views.{view_of, arguments}
 use Rattle.dps_terms.specs.Walk.{subterms_from}
 use Rattle.dps_terms.proofs.Building.{closed_has_none}

@@ -1,9 +1,9 @@
 -- The next way, entry by entry.
-use Rattle.std.proofs.Common.{◌≡◌, ℕ, zero, suc, ◌+◌, ◌<◌, ◌≤◌, Bool, true, false, List, [], ◌∷◌, ◌++◌, length, slice_get, get_or, drop, Option, Some, None, refl, sym, ◌∙◌, ap, subst, arith, add-one, drop-cons, cond, inl, inr}
+use Rattle.std.proofs.Common.{◌≡◌, ℕ, zero, suc, ◌+◌, ◌<◌, ◌≤◌, false, List, [], ◌∷◌, ◌++◌, length, slice_get, get_or, drop, Option, Some, None, refl, sym, ◌∙◌, ap, arith, add-one, drop-cons, cond, inl, inr}
 use Rattle.std.specs.Prelude.{nat_le, option_map, is_some}
 use Rattle.std.proofs.lemmas.Bool.{le-leb, leb-true, cases_Bool}
 use Rattle.std.proofs.lemmas.List.{drop_all}
-use Rattle.std.proofs.lemmas.Option.{none-some, slice_get_within, get_or_from_slice_get}
+use Rattle.std.proofs.lemmas.Option.{slice_get_within, get_or_from_slice_get}
 use Rattle.dps_terms.specs.declared.borrowed.TermView.TheVariants.{Var}
 use Rattle.dps_terms.specs.Tree.{public, private, var, ax, entry, rigid, Tree, leaf, app}
 use Rattle.dps_terms.specs.Views.{view_of}

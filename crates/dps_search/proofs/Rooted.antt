@@ -1,5 +1,5 @@
 -- What the roots of terms say of them.
-use Rattle.std.proofs.Common.{◌≡◌, ℕ, ◌+◌, List, [], ◌∷◌, ◌++◌, drop, Option, Some, None, refl, sym, ◌∙◌, ap, subst}
+use Rattle.std.proofs.Common.{◌≡◌, ℕ, ◌+◌, List, [], ◌∷◌, ◌++◌, drop, Option, Some, None, refl, sym, ◌∙◌, ap}
 use Rattle.std.specs.Prelude.{nat_eq, if◌then◌else◌}
 use Rattle.std.proofs.lemmas.List.Elements.{All-head}
 use Rattle.dps_terms.specs.declared.borrowed.TermView.{TermView}
@@ -11,7 +11,6 @@ use Rattle.dps_terms.specs.Views.{view_of}
 use Rattle.dps_unify.proofs.Bound.{image_none, image_some}
 use Rattle.dps_solver.specs.Scene.{System}
 use Rattle.dps_solver.specs.Search.{Way, follow, use_entry, compose, entry_ways}
-use Rattle.dps_solver.specs.declared.scene.Target.{Target}
 use Rattle.dps_search.specs.declared.step.Step.{Step}
 use Rattle.dps_search.specs.declared.step.Step.TheVariants.{Follow, Use, Compose}
 use Rattle.dps_search.specs.Ways.{ways_behind, IsNextStep}

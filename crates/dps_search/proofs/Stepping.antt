@@ -1,6 +1,6 @@
 -- Single steps from a branch to the next.
-use Rattle.std.proofs.Common.{◌≡◌, ℕ, zero, suc, ◌+◌, ◌<◌, List, [], ◌∷◌, ◌++◌, length, slice_get, get_or, take, drop, Some, None, refl, sym, ◌∙◌, ap, subst, arith, add-one, drop-cons, ◌⊎◌, inl, inr}
-use Rattle.std.specs.List.{range_with_len, zip}
+use Rattle.std.proofs.Common.{◌≡◌, ℕ, zero, suc, ◌+◌, ◌<◌, List, [], ◌∷◌, ◌++◌, length, slice_get, get_or, take, drop, Some, refl, sym, ◌∙◌, ap, arith, add-one, drop-cons}
+use Rattle.std.specs.List.{range_with_len}
 use Rattle.std.proofs.lemmas.Option.{none-some}
 use Rattle.dps_terms.specs.declared.borrowed.TermView.TheVariants.{Var}
 use Rattle.dps_terms.specs.Tree.{public, private, var, ax, entry, rigid, Tree, leaf, app}

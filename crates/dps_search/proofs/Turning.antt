@@ -1,16 +1,14 @@
 -- What a task lists, by the next way.
-use Rattle.std.proofs.Common.{◌≡◌, ℕ, zero, suc, ◌+◌, ◌<◌, ◌≤◌, List, [], ◌∷◌, ◌++◌, length, slice_get, get_or, drop, Some, None, refl, sym, ◌∙◌, ap, subst, subst₂, arith, add-one, drop-cons}
-use Rattle.std.specs.Prelude.{◌↔◌, nat_le, if◌then◌else◌}
-use Rattle.std.proofs.lemmas.Option.{none-some}
+use Rattle.std.proofs.Common.{◌≡◌, ℕ, ◌≤◌, List, [], ◌∷◌, ◌++◌, refl, sym, ◌∙◌, ap, subst, subst₂, arith}
+use Rattle.std.specs.Prelude.{◌↔◌}
 use Rattle.dps_terms.specs.Tree.{public, private, var, ax, entry, rigid, Tree, leaf, app}
 use Rattle.dps_terms.specs.Replace.{substitute}
 use Rattle.dps_unify.specs.Unifier.{IsNotUnifiable}
-use Rattle.dps_know.specs.declared.know.Entry.{Entry}
 use Rattle.dps_solver.specs.Scene.{System, Scene, Ask}
 use Rattle.dps_solver.specs.declared.scene.Target.{Target}
-use Rattle.dps_solver.specs.Search.{GeneralSolution, Branch, Way, follow, use_entry, compose, entry_ways, ways, entry_equation, Leads, Lists, gives, drops, goes_on, ListsBy, no_way, leads, ends}
+use Rattle.dps_solver.specs.Search.{GeneralSolution, Branch, Way, use_entry, entry_ways, ways, entry_equation, Leads, Lists, gives, drops, goes_on, ListsBy, no_way, leads, ends}
 use Rattle.dps_solver.proofs.Once.{leads_once, unusable, at_targets, none_is_some}
-use Rattle.dps_search.specs.Ways.{composing, ways_behind}
+use Rattle.dps_search.specs.Ways.{ways_behind}
 use Rattle.dps_search.specs.Tasks.{ListsBehind, AreJoined, IsOneLater}
 
 nothing : {X : Type 0} (xs : List X) → xs ++ [] ≡ xs

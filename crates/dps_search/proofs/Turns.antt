@@ -1,7 +1,7 @@
 -- One turn, by the step that is made.
-use Rattle.std.proofs.Common.{◌≡◌, ℕ, ◌+◌, ◌<◌, ◌≤◌, Bool, true, false, List, [], ◌∷◌, length, get_or, drop, Option, Some, None, refl, sym, ◌∙◌, ap, subst, arith, inl, inr, Result, Ok, Err}
+use Rattle.std.proofs.Common.{◌≡◌, ℕ, ◌<◌, Bool, true, false, List, [], ◌∷◌, length, get_or, drop, Option, Some, None, refl, sym, ◌∙◌, ap, subst, arith, inl, inr, Result, Ok, Err}
 use Rattle.std.specs.Prelude.{◌↔◌, IfOk, OnOk}
-use Rattle.dps_terms.specs.Tree.{var, Tree, leaf}
+use Rattle.dps_terms.specs.Tree.{Tree}
 use Rattle.dps_terms.specs.Replace.{substitute}
 use Rattle.dps_terms.specs.Bindings.{image}
 use Rattle.dps_unify.specs.Unifier.{IsNotUnifiable}
@@ -11,7 +11,6 @@ use Rattle.dps_solver.specs.Search.{GeneralSolution, Branch, Way, follow, use_en
 use Rattle.dps_solver.specs.Solutions.{Respects}
 use Rattle.dps_solver.proofs.Once.{none_is_some}
 use Rattle.dps_search.specs.declared.scene.Mgs.{Mgs}
-use Rattle.dps_search.specs.declared.branch.Branch.{Branch as CodeBranch}
 use Rattle.dps_search.specs.declared.step.Step.{Step}
 use Rattle.dps_search.specs.declared.step.Step.TheVariants.{Follow, Use, Compose}
 use Rattle.dps_search.specs.declared.task.Task.{Task}
@@ -22,7 +21,7 @@ use Rattle.dps_search.specs.Going.{IsFollowed, entered}
 use Rattle.dps_search.specs.Putting.{IsUnifiedBy}
 use Rattle.dps_search.specs.Ways.{ways_behind, IsNextStep}
 use Rattle.dps_search.specs.Finishing.{IsFinished}
-use Rattle.dps_search.specs.Tasks.{ListsBehind, TaskLists, solutions, AreJoined, IsOneLater, IsTurn, IsNextOf, IsPassed}
+use Rattle.dps_search.specs.Tasks.{ListsBehind, TaskLists, AreJoined, IsOneLater, IsTurn, IsNextOf, IsPassed}
 use Rattle.dps_search.proofs.Turning.{begins, leads_on, leads_last, ends_here, over_here, takes_one}
 
 through : {A B C : Type 0} → A ↔ B → B ↔ C → A ↔ C

@@ -1,11 +1,9 @@
 -- What the code's structures stand for.
-use Rattle.std.specs.Prelude.{◌≡◌, ℕ, List, [], ◌∷◌, ◌++◌, map}
-use Rattle.dps_terms.specs.Tree.{Tree}
+use Rattle.std.specs.Prelude.{map}
 use Rattle.dps_terms.specs.Bindings.{image}
 use Rattle.dps_solver.specs.Scene.{System, Scene, Ask}
 use Rattle.dps_solver.specs.Code.{disequation_of}
 use Rattle.dps_solver.specs.Search.{GeneralSolution, Branch}
-use Rattle.dps_solver.specs.declared.scene.Target.{Target}
 use Rattle.dps_search.specs.declared.scene.Scene.{Scene as CodeScene}
 use Rattle.dps_search.specs.declared.scene.Ask.{Ask as CodeAsk}
 use Rattle.dps_search.specs.declared.scene.Mgs.{Mgs}

@@ -1,4 +1,4 @@
-use Rattle.std.proofs.Common.{◌≡◌, max, drop, map}
+use Rattle.std.proofs.Common.{◌≡◌, max, drop}
 use Rattle.std.specs.List.{flat_map}
 use Rattle.dps_solver.specs.Search.{least_above}
 use Rattle.dps_search.specs.Numbers.{composition_numbers}

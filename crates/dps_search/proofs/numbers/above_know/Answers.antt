@@ -1,4 +1,4 @@
-use Rattle.std.proofs.Common.{◌≡◌, ◌++◌, max, ap, arith}
+use Rattle.std.proofs.Common.{◌≡◌, ◌++◌, ap, arith}
 use Rattle.std.specs.List.{flat_map}
 use Rattle.std.proofs.lemmas.Result.{IfOk-weaker}
 use Rattle.dps_terms.specs.Variables.{occurrences}

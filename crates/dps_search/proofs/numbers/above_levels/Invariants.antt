@@ -1,5 +1,4 @@
 use Rattle.std.proofs.Common.{◌≡◌, max, drop, map}
-use Rattle.std.specs.List.{flat_map}
 use Rattle.dps_solver.specs.Search.{least_above}
 use Rattle.std.proofs.Common.{ℕ}
 use Rattle.dps_search.proofs.numbers.above_levels.Given as goal

@@ -1,4 +1,4 @@
-use Rattle.std.proofs.Common.{max, arith, sym, ap, ◌∙◌}
+use Rattle.std.proofs.Common.{max, arith}
 use Rattle.std.specs.List.{flat_map}
 use Rattle.dps_terms.specs.Variables.{occurrences}
 use Rattle.dps_solver.specs.Search.{least_above}

@@ -1,6 +1,5 @@
-use Rattle.std.proofs.Common.{max, arith, sym, ap, ◌∙◌}
+use Rattle.std.proofs.Common.{max, arith}
 use Rattle.std.specs.List.{flat_map}
-use Rattle.dps_terms.specs.Variables.{occurrences}
 use Rattle.dps_solver.specs.Search.{least_above}
 use Rattle.dps_solver.specs.Search.{entry_numbers}
 use Rattle.dps_search.proofs.Above.{above_next}

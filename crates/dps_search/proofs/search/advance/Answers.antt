@@ -1,4 +1,4 @@
-use Rattle.std.proofs.Common.{◌≡◌, ◌+◌, ◌-◌, nat_lt, arith}
+use Rattle.std.proofs.Common.{◌+◌, ◌-◌, nat_lt, arith}
 use Rattle.dps_search.specs.Code.{scene_of, ask_of}
 use Rattle.dps_search.proofs.Advancing.{advance_none, advance_some, advance_moved, advance_branched}
 use Rattle.dps_search.proofs.search.advance.Goals as goal

@@ -1,4 +1,4 @@
-use Rattle.std.proofs.Common.{◌≡◌, Option, subst}
+use Rattle.std.proofs.Common.{Option, subst}
 use Rattle.dps_search.specs.declared.branch.Branch.{Branch}
 use Rattle.dps_search.specs.Code.{scene_of, ask_of}
 use Rattle.dps_search.specs.Agenda.{IsStart}

@@ -1,4 +1,4 @@
-use Rattle.std.proofs.Common.{◌≡◌, ◌∙◌, Option, subst}
+use Rattle.std.proofs.Common.{◌∙◌, Option, subst}
 use Rattle.std.specs.Prelude.{MatchOption}
 use Rattle.dps_terms.specs.Bindings.{image}
 use Rattle.dps_unify.specs.Unifier.{IsNotUnifiable}

@@ -1,4 +1,4 @@
-use Rattle.std.proofs.Common.{rules, ◌≡◌, ◌-◌, ◌≤◌, ◌∙◌, Err, sym, arith}
+use Rattle.std.proofs.Common.{rules, ◌≡◌, ◌-◌, ◌∙◌, Err, sym, arith}
 use Rattle.dps_search.specs.declared.scene.Stop.TheVariants.{Spent}
 use Rattle.dps_search.specs.Code.{scene_of, ask_of}
 use Rattle.dps_search.proofs.Advancing.{goes_on_popped, spends, finds, no_task}

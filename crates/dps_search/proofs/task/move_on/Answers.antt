@@ -1,6 +1,6 @@
-use Rattle.std.proofs.Common.{◌≡◌, Some, subst}
+use Rattle.std.proofs.Common.{Some, subst}
 use Rattle.dps_search.specs.declared.step.Step.{Step}
-use Rattle.dps_search.specs.Code.{branch_of, scene_of, system_of}
+use Rattle.dps_search.specs.Code.{branch_of, scene_of}
 use Rattle.dps_search.specs.Tasks.{IsNextOf}
 use Rattle.dps_search.proofs.Turns.{follow_result, compose_result, use_result}
 use Rattle.dps_search.proofs.task.move_on.Goals as goal

@@ -1,9 +1,7 @@
-use Rattle.std.proofs.Common.{rules, ◌≡◌, ◌<◌, ◌∙◌, List, [], ◌∷◌, Option, length, vec_len, refl, sym, subst, arith}
+use Rattle.std.proofs.Common.{rules, ◌≡◌, ◌<◌, ◌∙◌, List, [], ◌∷◌, length, vec_len, refl, sym, arith}
 use Rattle.std.proofs.lemmas.Bool.{eqb-true}
 use Rattle.dps_solver.specs.declared.scene.Target.{Target}
-use Rattle.dps_search.specs.declared.step.Step.{Step}
-use Rattle.dps_search.specs.Code.{branch_of, scene_of, ask_of}
-use Rattle.dps_search.specs.Tasks.{IsNextOf}
+use Rattle.dps_search.specs.Code.{scene_of, ask_of}
 use Rattle.dps_search.proofs.Turns.{finished, go_nowhere, room_result}
 use Rattle.dps_search.proofs.task.take_turn.Goals as goal
 

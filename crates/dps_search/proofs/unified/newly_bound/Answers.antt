@@ -1,4 +1,4 @@
-use Rattle.std.proofs.Common.{rules, ◌≡◌, ℕ, ◌+◌, List, Vec, Global, get_or, ap, sym, subst, ◌∙◌}
+use Rattle.std.proofs.Common.{rules, ℕ, ◌+◌, List, Vec, Global, get_or, ap, sym, subst, ◌∙◌}
 use Rattle.std.proofs.lemmas.Option.{slice_get-get_or}
 use Rattle.dps_terms.specs.Bindings.{image}
 use Rattle.dps_search.proofs.Newly.{AreListed, listed_same, listed_more, listed_all}
