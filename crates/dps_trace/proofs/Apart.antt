@@ -1,5 +1,5 @@
 -- Texts tell labels, and traces, apart.
-use Rattle.std.proofs.Common.{◌≡◌, ◌≢◌, ℕ, zero, suc, ◌+◌, ◌<◌, ◌≤◌, ◌^◌, List, [], ◌∷◌, ◌++◌, Option, Some, None, refl, ap, sym, subst, ◌∙◌, length, get_or, drop, arith, append_assoc, length-append}
+use Rattle.std.proofs.Common.{◌≡◌, ◌≢◌, ℕ, List, [], ◌∷◌, ◌++◌, Option, Some, None, refl, ap, sym, subst, ◌∙◌, get_or, drop, arith}
 use Rattle.std.specs.Fmt.{decimal}
 use Rattle.std.proofs.lemmas.Fmt.{decimal_injective}
 use Rattle.std.proofs.lemmas.List.{append_cancel_right, append-nil}
@@ -12,9 +12,8 @@ use Rattle.dps_branch.specs.declared.Side.TheVariants.{Left, Right}
 use Rattle.dps_process.specs.Steps.{Label, inputs, outputs, overhears}
 use Rattle.dps_trace.specs.declared.model.ModelName.{ModelName}
 use Rattle.dps_trace.specs.declared.model.ModelName.TheVariants.{Private, Classic, Eavesdrop}
-use Rattle.dps_trace.specs.Traces.{Trace}
-use Rattle.dps_trace.specs.Text.{line, label_text, label_lines, side_line, heading, trace_text, IsTraceText}
-use Rattle.dps_trace.specs.Written.{IsWrittenLabel, IsWrittenRecipe, IsInTurn, AreWritten, outputs_behind, outputs_after}
+use Rattle.dps_trace.specs.Text.{line, label_text, label_lines, side_line, heading}
+use Rattle.dps_trace.specs.Written.{IsWrittenLabel, IsWrittenRecipe, AreWritten, outputs_behind, outputs_after}
 use Rattle.dps_trace.specs.Scanning.{public_named, recipe_read}
 use Rattle.dps_trace.proofs.Cuts.{one_cut}
 use Rattle.dps_trace.proofs.Labels.{text_read, name_without}

@@ -1,7 +1,7 @@
 -- Bytes up to the first one of a value.
-use Rattle.std.proofs.Common.{◌≡◌, ◌≢◌, ℕ, ◌+◌, ◌<◌, ◌≤◌, false, List, [], ◌∷◌, ◌++◌, refl, ap, sym, subst, ◌∙◌, length, get_or, take, drop, arith}
+use Rattle.std.proofs.Common.{◌≡◌, ◌≢◌, ℕ, false, List, [], ◌∷◌, ◌++◌, refl, ap, sym, ◌∙◌, get_or, drop, arith}
 use Rattle.std.proofs.lemmas.Bool.Decides.{nat_tests}
-use Rattle.dps_trace.specs.Cut.{IsWithout, IsCut}
+use Rattle.dps_trace.specs.Cut.{IsWithout}
 use Rattle.dps_trace.specs.Scanning.{is_sign}
 use Rattle.dps_trace.proofs.Scanned.{IsUnsigned}
 

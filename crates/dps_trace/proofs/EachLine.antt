@@ -5,7 +5,6 @@ use Rattle.dps_branch.specs.declared.Side.{Side}
 use Rattle.dps_branch.specs.declared.Side.TheVariants.{Left, Right}
 use Rattle.dps_signature.specs.Signature.{Signature}
 use Rattle.dps_process.specs.declared.label.Label.{Label}
-use Rattle.dps_process.specs.Steps.{Label as Seen}
 use Rattle.dps_process.specs.Labels.{label_of}
 use Rattle.dps_trace.specs.declared.model.ModelName.{ModelName}
 use Rattle.dps_trace.specs.declared.model.ModelName.TheVariants.{Private, Classic, Eavesdrop}

@@ -1,11 +1,9 @@
 -- The handles of a recipe, node by node.
-use Rattle.std.proofs.Common.{◌≡◌, ◌≤◌, ◌<◌, ◌+◌, ℕ, Bool, true, List, [], ◌∷◌, ◌++◌, length, take, drop, refl, ap, sym, subst, ◌∙◌, arith}
+use Rattle.std.proofs.Common.{◌≡◌, ◌+◌, ℕ, Bool, true, List, [], ◌∷◌, ◌++◌, length, take, drop, ap, sym, subst, ◌∙◌, arith}
 use Rattle.std.specs.Prelude.{◌↔◌, ◌==◌, ⊤, IsTrue}
 use Rattle.std.proofs.lemmas.Bool.Decides.{nat_tests}
 use Rattle.std.proofs.lemmas.List.{take-append-drop}
-use Rattle.dps_terms.specs.declared.borrowed.TermView.{TermView}
-use Rattle.dps_terms.specs.declared.borrowed.TermView.TheVariants.{Ax}
-use Rattle.dps_terms.specs.Tree.{Leaf, public, private, var, ax, entry, rigid, Tree, Trees, leaf, app, none, more, list_of, node_count}
+use Rattle.dps_terms.specs.Tree.{public, private, var, ax, entry, rigid, Tree, Trees, leaf, app, none, more, list_of}
 use Rattle.dps_terms.specs.Kinds.{IsBuiltOf, AreBuiltOf, AnySymbol}
 use Rattle.dps_terms.specs.Views.{arguments, view_of}
 use Rattle.dps_terms.specs.Walk.{subterms_from}

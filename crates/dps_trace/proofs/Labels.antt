@@ -1,5 +1,5 @@
 -- What a label's line is made of.
-use Rattle.std.proofs.Common.{◌≡◌, ℕ, ◌+◌, ◌<◌, ◌≤◌, ◌^◌, List, [], ◌∷◌, ◌++◌, Option, Some, None, refl, ap, sym, subst, ◌∙◌, arith, get_or, drop, length, length-append}
+use Rattle.std.proofs.Common.{◌≡◌, ℕ, ◌<◌, ◌≤◌, ◌^◌, List, [], ◌∷◌, ◌++◌, Some, None, refl, ap, sym, subst, ◌∙◌, arith, get_or, drop, length, length-append}
 use Rattle.std.specs.Fmt.{decimal}
 use Rattle.std.specs.List.{IsLastAndRest}
 use Rattle.std.proofs.lemmas.Option.{none-some}

@@ -1,8 +1,7 @@
 -- Reading the lines of labels, and a whole trace.
-use Rattle.std.proofs.Common.{◌≡◌, ◌≢◌, ◌⊎◌, inl, inr, ℕ, ◌+◌, ◌-◌, ◌<◌, ◌≤◌, ◌^◌, IsTrue, true, false, List, [], ◌∷◌, ◌++◌, Option, Some, None, Ok, Err, Result, refl, ap, sym, subst, ◌∙◌, length, map, arith, append_assoc, length-append}
-use Rattle.std.specs.Prelude.{◌==◌, ◌↔◌, ⊤}
+use Rattle.std.proofs.Common.{◌≡◌, ◌≢◌, ◌⊎◌, inl, inr, ℕ, ◌+◌, ◌-◌, ◌<◌, ◌≤◌, ◌^◌, true, false, List, [], ◌∷◌, ◌++◌, Option, Some, None, Ok, Err, Result, refl, ap, sym, subst, ◌∙◌, length, map, arith, length-append}
+use Rattle.std.specs.Prelude.{◌==◌}
 use Rattle.std.proofs.lemmas.Bool.{eqb-true, eq-eqb}
-use Rattle.std.proofs.lemmas.List.{append-nil}
 use Rattle.std.proofs.lemmas.Option.{none-some}
 use Rattle.dps_signature.specs.Signature.{Signature}
 use Rattle.dps_signature.specs.Spelled.{IsSpelled}
@@ -13,7 +12,6 @@ use Rattle.dps_process.specs.Labels.{label_of}
 use Rattle.dps_process.specs.declared.label.Label.{Label as LabelValue}
 use Rattle.dps_trace.specs.declared.model.ModelName.{ModelName}
 use Rattle.dps_trace.specs.declared.model.ModelName.TheVariants.{Private, Classic, Eavesdrop}
-use Rattle.dps_trace.specs.declared.fault.TraceKind.{TraceKind}
 use Rattle.dps_trace.specs.declared.fault.TraceKind.TheVariants as kinds
 use Rattle.dps_trace.specs.declared.fault.TraceRefusal.{TraceRefusal}
 use Rattle.dps_trace.specs.declared.fault.TraceRefusal.TheVariants.{Fault, Memory}
@@ -21,7 +19,7 @@ use Rattle.dps_trace.specs.Cut.{newlines, IsCut, IsWithout}
 use Rattle.dps_trace.specs.Traces.{Trace}
 use Rattle.dps_trace.specs.Text.{line, label_text, label_lines, side_line, heading, AreLabelLines, IsTraceText}
 use Rattle.dps_trace.specs.Written.{IsWrittenLabel, IsInTurn, AreWritten, outputs_behind, outputs_after}
-use Rattle.dps_trace.specs.Faults.{BeginsWith, BeginsLabel, BeginsNoLabel, BeginsOutOfTurn, IsWrongNext, HasWrongLabel, HasWrongTurn, HasWrongLine, HasSideFault, IsRefusedFor, heading_lines}
+use Rattle.dps_trace.specs.Faults.{BeginsWith, BeginsLabel, BeginsOutOfTurn, IsWrongNext, HasWrongLabel, HasWrongTurn, HasWrongLine, IsRefusedFor, heading_lines}
 use Rattle.dps_trace.proofs.Cuts.{one_cut, stands_there}
 use Rattle.dps_trace.proofs.OneTrace.{one_trace, faulty_is_none}
 use Rattle.dps_trace.proofs.Unbroken.{label_unbroken}

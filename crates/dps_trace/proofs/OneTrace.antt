@@ -1,17 +1,16 @@
 -- No text is that of two traces, and none with a fault is that of a trace.
-use Rattle.std.proofs.Common.{◌≡◌, ◌≢◌, ◌⊎◌, inl, inr, ℕ, ◌+◌, List, [], ◌∷◌, ◌++◌, Option, Some, None, Ok, Err, Result, refl, ap, sym, subst, ◌∙◌, drop, get_or, arith}
+use Rattle.std.proofs.Common.{◌≡◌, ℕ, ◌+◌, List, [], ◌∷◌, Option, Some, None, ap, sym, subst, ◌∙◌, drop, get_or, arith}
 use Rattle.dps_signature.specs.Signature.{Signature}
 use Rattle.dps_signature.specs.Spelled.{IsSpelled}
-use Rattle.dps_branch.specs.declared.Side.{Side}
 use Rattle.dps_process.specs.Steps.{Label}
 use Rattle.dps_trace.specs.declared.model.ModelName.{ModelName}
 use Rattle.dps_trace.specs.declared.fault.TraceKind.{TraceKind}
 use Rattle.dps_trace.specs.declared.fault.TraceKind.TheVariants as kinds
 use Rattle.dps_trace.specs.Traces.{Trace}
-use Rattle.dps_trace.specs.Text.{line, label_text, label_lines, side_line, model_line, heading, second_header, trace_text, IsTraceText}
-use Rattle.dps_trace.specs.Written.{IsWrittenLabel, AreWritten, IsInTurn, outputs_after}
-use Rattle.dps_trace.specs.Faults.{HasTraceFault, HasHeaderFault, HasModelFault, HasSideFault, HasLabelFault, HasAxFault, HasWrongLabel, HasWrongTurn, BeginsOutOfTurn, heading_lines}
-use Rattle.dps_trace.proofs.Apart.{Continues, continues, a_line_is_some, lines_apart, all_labels_apart, headings_apart, sides_apart, SameHeading, SameSide}
+use Rattle.dps_trace.specs.Text.{line, label_text, label_lines, side_line, model_line, heading, second_header, IsTraceText}
+use Rattle.dps_trace.specs.Written.{AreWritten, IsInTurn, outputs_after}
+use Rattle.dps_trace.specs.Faults.{HasTraceFault, HasWrongLabel, HasWrongTurn, BeginsOutOfTurn, heading_lines}
+use Rattle.dps_trace.proofs.Apart.{Continues, continues, a_line_is_some, lines_apart, all_labels_apart, headings_apart, sides_apart}
 
 module _ (S : Signature) (spelled : IsSpelled S) where
   pub one_trace : (bytes : List ℕ) (t u : Trace) → IsTraceText S t bytes → IsTraceText S u bytes → t ≡ u

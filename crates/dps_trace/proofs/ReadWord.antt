@@ -1,10 +1,9 @@
 -- A word before what was read: a symbol over the terms behind it, or a leaf.
-use Rattle.std.proofs.Common.{◌≡◌, ℕ, Bool, true, false, List, Option, Some, None, refl, ap, sym, ◌∙◌, arith, if◌then◌else◌}
+use Rattle.std.proofs.Common.{◌≡◌, ℕ, true, false, List, Option, Some, None, refl, ap, ◌∙◌, arith, if◌then◌else◌}
 use Rattle.std.specs.Prelude.{◌==◌}
 use Rattle.std.proofs.lemmas.Bool.Decides.{nat_tests}
 use Rattle.dps_terms.specs.Tree.{Leaf}
 use Rattle.dps_signature.specs.Signature.{Signature}
-use Rattle.dps_trace.specs.Told.{told}
 use Rattle.dps_trace.specs.Scanning.{Reading, with_word, with_leaf, or_leaf, applied, symbol_read, leaf_read}
 
 module _ (S : Signature) (w : List ℕ) (r : Reading) where

@@ -1,14 +1,14 @@
 -- The text of a recipe is scanned as this recipe, where its words are.
-use Rattle.std.proofs.Common.{◌≡◌, ℕ, zero, suc, ◌+◌, ◌<◌, ◌≤◌, Bool, true, false, List, [], ◌∷◌, ◌++◌, Option, Some, None, refl, ap, sym, ◌∙◌, arith, append_assoc, length-append, length, take, drop, codes}
-use Rattle.std.specs.Prelude.{⊤, nat_lt, nat_le, if◌then◌else◌}
+use Rattle.std.proofs.Common.{◌≡◌, ℕ, suc, ◌+◌, ◌<◌, ◌≤◌, false, List, [], ◌∷◌, ◌++◌, Option, Some, None, refl, ap, ◌∙◌, arith, append_assoc, length-append, length, take, drop, codes}
+use Rattle.std.specs.Prelude.{⊤, if◌then◌else◌}
 use Rattle.std.proofs.lemmas.Bool.Decides.{nat_tests}
 use Rattle.std.proofs.lemmas.List.{append-nil}
 use Rattle.dps_terms.specs.declared.Sym.{Sym}
 use Rattle.dps_terms.specs.Tree.{Leaf, Tree, Trees, leaf, app, none, more, count, list_of, trees}
 use Rattle.dps_signature.specs.Signature.{Signature}
-use Rattle.dps_signature.specs.Text.{after_commas, in_brackets, text_with, texts_with, leaf_text, root_text, term_text}
+use Rattle.dps_signature.specs.Text.{after_commas, texts_with, leaf_text, root_text, term_text}
 use Rattle.dps_terms.specs.Kinds.{IsBuiltOf, AreBuiltOf}
-use Rattle.dps_trace.specs.Scanning.{Reading, Scan, start, scanned, with_byte, with_word, with_leaf, with_sign, closing, comma_in, opening_in, behind_word, between, is_sign, applied, or_leaf, symbol_read, leaf_read, finished, only_term, read_whole, recipe_read}
+use Rattle.dps_trace.specs.Scanning.{Reading, Scan, scanned, with_byte, with_word, with_sign, behind_word, between, is_sign, finished, read_whole, recipe_read}
 
 pub scanned-append : (S : Signature) (xs ys : List ℕ) (st : Option Scan) → scanned S (xs ++ ys) st ≡ scanned S xs (scanned S ys st)
 scanned-append S [] ys st = refl

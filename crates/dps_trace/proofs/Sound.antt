@@ -1,16 +1,15 @@
 -- What is read is a recipe over the signature.
-use Rattle.std.proofs.Common.{◌≡◌, ℕ, zero, suc, ◌+◌, ◌*◌, ◌-◌, ◌<◌, ◌≤◌, ◌^◌, Bool, true, false, ◌&&◌, List, [], ◌∷◌, ◌++◌, Option, Some, None, refl, ap, sym, subst, ◌∙◌, length, take, drop, arith, slice_get, map, if◌then◌else◌}
+use Rattle.std.proofs.Common.{◌≡◌, ℕ, zero, suc, ◌+◌, ◌<◌, ◌≤◌, ◌^◌, Bool, true, false, ◌&&◌, List, [], ◌∷◌, Option, Some, None, refl, ap, sym, subst, ◌∙◌, length, take, drop, arith, slice_get, if◌then◌else◌}
 use Rattle.std.specs.Prelude.{◌==◌, nat_le, nat_lt, unwrap_or, ⊤}
 use Rattle.std.specs.Str.{byte}
 use Rattle.std.specs.Option.{option_map}
 use Rattle.std.proofs.lemmas.Bool.Decides.{nat_tests}
 use Rattle.std.proofs.lemmas.Option.{slice_get-map, none-some}
-use Rattle.dps_terms.specs.declared.Sym.{Sym}
 use Rattle.dps_terms.specs.declared.PublicName.TheVariants.{Declared, At}
-use Rattle.dps_terms.specs.Tree.{Leaf, public, private, var, ax, entry, rigid, Tree, Trees, leaf, app, none, more, trees, count}
+use Rattle.dps_terms.specs.Tree.{Leaf, public, ax, Tree, app, trees, count}
 use Rattle.dps_signature.specs.Signature.{Symbol, Name, Signature, HasArity, IsPublic, shape_of, shapes}
 use Rattle.dps_signature.specs.Names.{symbol_named, name_named, tuple_name}
-use Rattle.dps_terms.specs.Kinds.{IsBuiltOf, AreBuiltOf}
+use Rattle.dps_terms.specs.Kinds.{AreBuiltOf}
 use Rattle.dps_trace.specs.Written.{IsWrittenLeaf, IsWrittenSymbol, IsWrittenRecipe}
 use Rattle.dps_trace.specs.Scanning.{Reading, Scan, start, scanned, with_byte, with_word, with_sign, closing, comma_in, opening_in, behind_word, between, is_sign, or_leaf, with_leaf, applied, symbol_read, symbol_if, leaf_read, or_mark, or_own, or_handle, public_named, public_if, is_public, own_read, handle_read, handle_of, behind_a, numeral, numeral_from, longer, has_arity, finished, only_term, read_whole, recipe_read}
 

@@ -1,11 +1,8 @@
 -- What texts of names, symbols and marks are made of.
-use Rattle.std.proofs.Common.{◌≡◌, ℕ, ◌+◌, ◌<◌, ◌≤◌, ◌^◌, lit<, Bool, true, false, ◌&&◌, ◌||◌, inl, inr, List, [], ◌∷◌, ◌++◌, Option, Some, None, refl, ap, sym, subst, ◌∙◌, length, get_or, codes, arith, IsTrue, slice_get, map, if◌then◌else◌}
-use Rattle.std.specs.Prelude.{◌==◌, nat_le, nat_lt, ⊤}
-use Rattle.std.specs.List.{All, AllPass, position, slice_index_or}
-use Rattle.std.specs.Str.{byte, bytes_eq, IsUtf8}
-use Rattle.std.specs.Fmt.{decimal}
-use Rattle.std.specs.Option.{option_map}
-use Rattle.std.proofs.lemmas.Bool.Decides.{nat_tests, same_from_decides}
+use Rattle.std.proofs.Common.{◌≡◌, ℕ, ◌+◌, ◌<◌, ◌≤◌, lit<, true, false, inl, inr, List, [], ◌∷◌, Option, Some, None, refl, ap, sym, subst, length, get_or, arith, slice_get}
+use Rattle.std.specs.List.{All, AllPass, slice_index_or}
+use Rattle.std.specs.Str.{bytes_eq, IsUtf8}
+use Rattle.std.proofs.lemmas.Bool.Decides.{nat_tests}
 use Rattle.std.proofs.lemmas.Slice.Eq.{bytes_eq-Decides}
 use Rattle.std.proofs.lemmas.List.Elements.{All-cons, All-nil}
 use Rattle.std.proofs.lemmas.Option.{slice_get-get_or}
@@ -17,7 +14,7 @@ use Rattle.std.specs.List.{list_all}
 use Rattle.dps_signature.specs.declared.SymKind.{SymKind}
 use Rattle.dps_signature.specs.declared.SymKind.TheVariants.{Constructor}
 use Rattle.dps_signature.specs.Signature.{Symbol, Name, Signature}
-use Rattle.dps_signature.specs.Names.{is_letter, is_digit, is_name_byte, IsWord, IsIdentifier, IsSymbolText, IsTupleSymbol, IsHandleText, tuple_name, symbol_named, name_named}
+use Rattle.dps_signature.specs.Names.{is_letter, is_digit, is_name_byte, IsWord, IsIdentifier, IsSymbolText, IsTupleSymbol, tuple_name, symbol_named, name_named}
 use Rattle.dps_signature.specs.Spelled.{IsSpelled}
 use Rattle.dps_trace.specs.Scanning.{is_sign, public_named, public_if}
 use Rattle.dps_trace.proofs.Scanned.{IsUnsigned}

@@ -1,5 +1,5 @@
 -- No newline stands in the text of a label.
-use Rattle.std.proofs.Common.{◌≡◌, ◌≢◌, ℕ, ◌+◌, ◌<◌, ◌≤◌, ◌^◌, true, ◌⊎◌, inl, inr, List, [], ◌∷◌, ◌++◌, Some, refl, sym, subst, codes, arith, slice_get}
+use Rattle.std.proofs.Common.{◌≡◌, ◌≢◌, ℕ, ◌+◌, ◌<◌, ◌^◌, true, inl, inr, List, [], ◌∷◌, ◌++◌, Some, sym, subst, codes, arith, slice_get}
 use Rattle.std.specs.List.{list_all}
 use Rattle.std.specs.Fmt.{decimal}
 use Rattle.std.proofs.lemmas.Bool.Decides.{nat_tests}
@@ -7,7 +7,7 @@ use Rattle.std.proofs.lemmas.List.Sums.{list_all-from_AllPass}
 use Rattle.dps_terms.specs.declared.Sym.{Sym}
 use Rattle.dps_terms.specs.declared.PublicName.TheVariants.{Declared, At}
 use Rattle.dps_terms.specs.Tree.{Leaf, public, private, var, ax, entry, rigid, Tree, Trees, leaf, app, none, more, count}
-use Rattle.dps_terms.specs.Kinds.{IsBuiltOf, AreBuiltOf}
+use Rattle.dps_terms.specs.Kinds.{AreBuiltOf}
 use Rattle.dps_signature.specs.Signature.{Symbol, Signature, IsPublic}
 use Rattle.dps_signature.specs.Names.{is_letter, is_name_byte, IsWord, IsSymbolText}
 use Rattle.dps_signature.specs.Spelled.{IsSpelled}

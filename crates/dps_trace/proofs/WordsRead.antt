@@ -1,6 +1,6 @@
 -- The words of a recipe are read as what they are.
-use Rattle.std.proofs.Common.{◌≡◌, ℕ, ◌+◌, ◌<◌, ◌≤◌, ◌^◌, Bool, true, false, ◌&&◌, inl, inr, List, [], ◌∷◌, ◌++◌, Option, Some, None, refl, ap, sym, subst, ◌∙◌, length, take, drop, codes, arith, slice_get, map, if◌then◌else◌}
-use Rattle.std.specs.Prelude.{◌==◌, nat_le, nat_lt, unwrap_or, ⊤}
+use Rattle.std.proofs.Common.{◌≡◌, ℕ, ◌<◌, ◌≤◌, ◌^◌, true, false, ◌&&◌, inl, inr, List, [], ◌∷◌, Option, Some, None, refl, ap, sym, subst, ◌∙◌, length, take, drop, arith, slice_get, if◌then◌else◌}
+use Rattle.std.specs.Prelude.{◌==◌, nat_le, unwrap_or}
 use Rattle.std.specs.Fmt.{decimal}
 use Rattle.std.specs.Option.{option_map}
 use Rattle.std.proofs.lemmas.Bool.Decides.{nat_tests}
@@ -10,11 +10,11 @@ use Rattle.dps_terms.specs.declared.Sym.{Sym}
 use Rattle.dps_terms.specs.declared.PublicName.TheVariants.{Declared, At}
 use Rattle.dps_terms.specs.Tree.{Leaf, public, private, var, ax, entry, rigid, Tree, leaf, app, trees}
 use Rattle.dps_signature.specs.Signature.{Symbol, Name, Shape, Signature, HasArity, IsPublic, shape_of, shapes}
-use Rattle.dps_signature.specs.Names.{IsSymbolText, IsIdentifier, IsTupleSymbol, symbol_named, name_named, tuple_name}
+use Rattle.dps_signature.specs.Names.{IsSymbolText, IsIdentifier, symbol_named, name_named, tuple_name}
 use Rattle.dps_signature.specs.Text.{leaf_text, name_text, symbol_text, root_text, opens_bracket}
 use Rattle.dps_signature.specs.Spelled.{IsSpelled}
 use Rattle.dps_trace.specs.Written.{IsWrittenLeaf, IsWrittenSymbol}
-use Rattle.dps_trace.specs.Scanning.{Reading, with_word, or_leaf, applied, symbol_read, symbol_if, leaf_read, or_mark, or_own, or_handle, public_named, public_if, is_public, own_read, handle_read, handle_of, numeral, has_arity}
+use Rattle.dps_trace.specs.Scanning.{Reading, with_word, or_leaf, applied, symbol_read, symbol_if, leaf_read, or_mark, or_own, or_handle, public_named, public_if, is_public, handle_of, has_arity}
 use Rattle.dps_trace.proofs.Scanned.{IsUnsigned, AreRead, settled}
 use Rattle.dps_trace.proofs.Digits.{numeral-decimal, decimal_digits}
 use Rattle.dps_trace.proofs.Spelling.{word_bytes, digits_unsigned, no_symbol, no_name, IsNoText, own_no_text, handle_no_text}

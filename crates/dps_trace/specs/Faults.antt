@@ -1,5 +1,5 @@
 -- The first line of a trace that is wrong, and what is wrong with it.
-use Rattle.std.specs.Prelude.{◌≡◌, ◌≢◌, ℕ, ◌+◌, List, [], ◌∷◌, ◌++◌, Option, Some, None, length, ⊤}
+use Rattle.std.specs.Prelude.{◌≡◌, ◌≢◌, ℕ, ◌+◌, List, [], Option, Some, None, length, ⊤}
 use Rattle.dps_branch.specs.declared.Side.{Side}
 use Rattle.dps_signature.specs.Signature.{Signature}
 use Rattle.dps_process.specs.Steps.{Label}

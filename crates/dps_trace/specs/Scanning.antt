@@ -1,10 +1,10 @@
 -- How a recipe is read, from its text's end to its front: words between signs, where a bracket tells how many arguments the
 -- symbol before it has. What is read so is the only recipe that may have the text.
-use Rattle.std.specs.Prelude.{◌≡◌, ℕ, ◌+◌, ◌*◌, ◌-◌, ◌^◌, Bool, true, false, ◌&&◌, ◌||◌, ◌==◌, nat_le, nat_lt, List, [], ◌∷◌, Option, Some, None, length, take, drop, slice_get, unwrap_or, if◌then◌else◌}
+use Rattle.std.specs.Prelude.{ℕ, ◌+◌, ◌*◌, ◌-◌, ◌^◌, Bool, true, false, ◌&&◌, ◌||◌, ◌==◌, nat_le, nat_lt, List, [], ◌∷◌, Option, Some, None, length, take, drop, slice_get, unwrap_or, if◌then◌else◌}
 use Rattle.std.specs.Str.{byte}
 use Rattle.std.specs.Option.{option_map}
 use Rattle.dps_terms.specs.declared.PublicName.TheVariants.{Declared, At}
-use Rattle.dps_terms.specs.Tree.{Leaf, public, ax, Tree, Trees, leaf, app, trees}
+use Rattle.dps_terms.specs.Tree.{Leaf, public, ax, Tree, leaf, app, trees}
 use Rattle.dps_signature.specs.Signature.{Signature}
 use Rattle.dps_signature.specs.Names.{symbol_named, name_named, tuple_name}
 

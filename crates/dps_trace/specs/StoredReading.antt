@@ -1,5 +1,5 @@
 -- How a proof stores what was read of a recipe.
-use Rattle.std.specs.Prelude.{◌≡◌, ℕ, List, refl}
+use Rattle.std.specs.Prelude.{ℕ, List, refl}
 use Rattle.std.specs.Coded.{Coded, code_by, coded×, coded_list, coded_ℕ}
 use Rattle.dps_terms.specs.Tree.{Tree}
 use Rattle.dps_terms.specs.Stored.{tree_code}

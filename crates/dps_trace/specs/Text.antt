@@ -62,10 +62,3 @@ trace_text signature trace = heading trace.model (line (side_line trace.side) (l
 pub record IsTraceText (signature : Signature) (trace : Trace) (bytes : List ℕ) : Type 0 where
   pub written : AreWritten signature 0 trace.labels
   pub text : bytes ≡ trace_text signature trace
-
--- the same in format 2, and in format 1
-abbrev pub TraceText : Signature → Trace → List ℕ → Type 0
-TraceText signature trace bytes = (model : ModelName) × (trace.model ≡ Some model) × IsTraceText signature trace bytes
-
-abbrev pub OldTraceText : Signature → Trace → List ℕ → Type 0
-OldTraceText signature trace bytes = (trace.model ≡ None) × IsTraceText signature trace bytes

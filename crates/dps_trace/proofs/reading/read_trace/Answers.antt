@@ -1,4 +1,4 @@
-use Rattle.std.proofs.Common.{◌≡◌, ◌+◌, map, refl}
+use Rattle.std.proofs.Common.{◌+◌, map, refl}
 use Rattle.dps_process.specs.Labels.{label_of}
 use Rattle.dps_trace.specs.Traces.{Trace}
 use Rattle.dps_trace.specs.declared.fault.TraceKind.TheVariants as kinds

@@ -1,4 +1,4 @@
-use Rattle.std.proofs.Common.{rules, ◌≡◌, false, true, List, [], ◌∷◌, ◌++◌, length, drop}
+use Rattle.std.proofs.Common.{rules, ◌≡◌, false, true, [], ◌∷◌, ◌++◌, length, drop}
 use Rattle.dps_trace.specs.Told.{told}
 use Rattle.dps_trace.specs.Scanning.{is_sign, with_sign}
 use Rattle.dps_trace.proofs.Backward.{sign_refused}

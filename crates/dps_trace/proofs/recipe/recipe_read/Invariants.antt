@@ -1,4 +1,4 @@
-use Rattle.std.proofs.Common.{ℕ, length}
+use Rattle.std.proofs.Common.{length}
 use Rattle.dps_trace.proofs.Backward.{IsRead}
 use Rattle.dps_trace.proofs.recipe.recipe_read.Given as goal
 
