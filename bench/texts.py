@@ -178,5 +178,8 @@ SOLVING = {
 }
 
 folder = pathlib.Path(sys.argv[2])
-for name, text in {"lexing": LEXING, "reading": READING, "unifying": UNIFYING, "comparing": COMPARING, "ruled": RULED, "exploring": EXPLORING, "solving": SOLVING}[sys.argv[1]].items():
+# names of cases: eight senders and receivers, a word of one input and one output in turn, and one of two and two
+SEMANTICS = {"settle": "settle", "word": "word", "doubled": "doubled"}
+
+for name, text in {"lexing": LEXING, "reading": READING, "unifying": UNIFYING, "comparing": COMPARING, "ruled": RULED, "exploring": EXPLORING, "solving": SOLVING, "semantics": SEMANTICS}[sys.argv[1]].items():
     (folder / f"{name}.txt").write_text(text)
