@@ -107,6 +107,9 @@ UNIFYING = {"last": "last", "first": "first", "variable": "variable", "doubled":
 # names of cases: a table without a stop, and one that stops at its last look
 EXPLORING = {"none": "none", "last": "last"}
 
+# names of cases with the number of levels: trees without a stop, with a stop at each leaf, and with one at the first leaf
+BOOKING = {f"{case}{levels}": f"{case} {levels}" for case in ["kids", "stops", "first"] for levels in [12, 16, 20]}
+
 folder = pathlib.Path(sys.argv[2])
-for name, text in {"lexing": LEXING, "reading": READING, "unifying": UNIFYING, "comparing": COMPARING, "ruled": RULED, "exploring": EXPLORING}[sys.argv[1]].items():
+for name, text in {"lexing": LEXING, "reading": READING, "unifying": UNIFYING, "comparing": COMPARING, "ruled": RULED, "exploring": EXPLORING, "booking": BOOKING}[sys.argv[1]].items():
     (folder / f"{name}.txt").write_text(text)

@@ -15,7 +15,7 @@ use Rattle.dps_book.proofs.book.Book.claim.Goals as goal
 
 pub overflow_add-index_mut : goal.overflow_add-index_mut
 overflow_add-index_mut c =
-    let k = c.self.invariant in
+    let k = c.self.invariant.0 in
     let claims = c.self.inside.claims.items in
     let w = c.args.worker in
     let n = c.index_mut-3.result.now in
@@ -26,7 +26,7 @@ overflow_add-index_mut c =
 
 pub invariant_of-self : goal.invariant_of-self
 invariant_of-self c =
-    let k = c.self.invariant in
+    let k = c.self.invariant.0 in
     let rows = c.self.inside.rows.items in
     let holds = c.self.inside.holds.items in
     let claims = c.self.inside.claims.items in

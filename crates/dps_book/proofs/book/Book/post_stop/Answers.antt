@@ -20,13 +20,13 @@ use Rattle.dps_book.proofs.book.Book.post_stop.Goals as goal
 pub index_mut-requires-2 : goal.index_mut-requires-2
 index_mut-requires-2 c =
     let h : HasMark (the_view c.self.inside) c.args.ticket (Held c.args.worker) = subst (λ (x : Ledger). HasMark x c.args.ticket (Held c.args.worker)) (sym c.self.view_is) c.requires in
-    let mine : slice_get c.self.inside.holds.items c.args.worker ≡ Some (Some c.args.ticket) = c.self.invariant.holding.held c.args.ticket c.args.worker (row h.0 (Held c.args.worker)) h.1 refl in
+    let mine : slice_get c.self.inside.holds.items c.args.worker ≡ Some (Some c.args.ticket) = c.self.invariant.0.holding.held c.args.ticket c.args.worker (row h.0 (Held c.args.worker)) h.1 refl in
     omega (arith, slice_get_within c.self.inside.holds.items c.args.worker (Some c.args.ticket) mine, c.self.inside.holds.ok)
 
 pub push_reserved-requires : goal.push_reserved-requires
 push_reserved-requires c =
     let h : HasMark (the_view c.self.inside) c.args.ticket (Held c.args.worker) = subst (λ (x : Ledger). HasMark x c.args.ticket (Held c.args.worker)) (sym c.self.view_is) c.requires in
-    omega (arith, owed-set c.self.inside.rows.items c.args.ticket (row h.0 (Held c.args.worker)) (row h.0 Posted) h.1, c.self.invariant.owing, c.self.invariant.enough, c.self.inside.journal.ok)
+    omega (arith, owed-set c.self.inside.rows.items c.args.ticket (row h.0 (Held c.args.worker)) (row h.0 Posted) h.1, c.self.invariant.0.owing, c.self.invariant.0.enough, c.self.inside.journal.ok)
 
 -- the rows after the stop
 dropped : (rows done new : List Row) (t w : ℕ) (p : List ℕ) (q : Row) → slice_get rows t ≡ Some (row p (Held w)) → q ≡ row p (Held w) → done ≡ slice_set rows t (row q.path Posted)
@@ -42,14 +42,14 @@ invariant_of-self c =
     let w = c.args.worker in
     let t = c.args.ticket in
     let h : HasMark (the_view c.self.inside) t (Held w) = subst (λ (x : Ledger). HasMark x t (Held w)) (sym c.self.view_is) c.requires in
-    let mine : slice_get holds w ≡ Some (Some t) = c.self.invariant.holding.held t w (row h.0 (Held w)) h.1 refl in
+    let mine : slice_get holds w ≡ Some (Some t) = c.self.invariant.0.holding.held t w (row h.0 (Held w)) h.1 refl in
     let same : c.index_mut.result.now ≡ row h.0 (Held w) = c.index_mut.ensures.value ∙ get_or_from_slice_get rows t (row h.0 (Held w)) c.index_mut.result.now h.1 in
     let after : c.drop_after.new.rows.items ≡ map (dropped_after h.0) (with_mark rows t h.0 Posted) =
     dropped rows (slice_set rows t (row c.index_mut.result.now.path Posted)) c.drop_after.new.rows.items t w h.0 c.index_mut.result.now h.1 same refl c.drop_after.ensures in
     let count : c.count_open-self-inside.result ≡ opens c.drop_after.new.rows.items = c.count_open-self-inside.ensures ∙ ap opens c.deref.ensures.value in
     stop-right rows c.drop_after.new.rows.items c.self.inside.best c.self.inside.halted c.self.inside.open_paths c.count_open-self-inside.result holds c.self.inside.claims.items
     c.self.inside.journal.items c.push_reserved.new.self.items (vec_capacity c.self.inside.journal) (vec_capacity c.push_reserved.new.self) w t c.args.kind h.0
-    h.1 mine count after c.push_reserved.ensures.items c.push_reserved.ensures.capacity c.self.invariant
+    h.1 mine count after c.push_reserved.ensures.items c.push_reserved.ensures.capacity c.self.invariant.0
 
 pub returns : goal.returns
 returns c = λ path e.
