@@ -109,4 +109,4 @@ leads-insert next new xs ys x u o l at kid rest =
     let inside = λ (v : ℕ) (h : 1 ≤ times v (xs ++ x ∷ ys)). leads-inside next (xs ++ x ∷ ys) v l h in
     let front = λ (v : ℕ) (h : 1 ≤ times v xs). rest v (differs v x xs h (once-front x xs ys o)) (inside v (omega (arith, h, times-split v x xs ys))) in
     let behind = λ (v : ℕ) (h : 1 ≤ times v ys). rest v (differs v x ys h (once-behind x xs ys o)) (inside v (omega (arith, h, times-split v x xs ys, times-more x v ys))) in
-    leads-front next new xs x ys (u ∷ ys) front l (at, kid, leads-keep next new ys behind (leads-suffix next xs (x ∷ ys) l).1)
+    leads-front next new xs x ys (u ∷ ys) front l (at, (kid, leads-keep next new ys behind (leads-suffix next xs (x ∷ ys) l).1))

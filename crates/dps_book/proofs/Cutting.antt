@@ -45,11 +45,11 @@ closed_mark Dropped = refl
 closed_mark (DroppedHeld w) = refl
 
 -- what is dropped is counted
-pub opens-dropped_at : (rows : List Row) (t : ℕ) (r : Row) → slice_get rows t ≡ Some r → cond (is_open r.mark) 1 0 + opens (dropped_at rows t) ≡ opens rows
+pub opens-dropped_at : (rows : List Row) (t : ℕ) (r : Row) → slice_get rows t ≡ Some r → opens (dropped_at rows t) + cond (is_open r.mark) 1 0 ≡ opens rows
 opens-dropped_at [] t r e = absurd (none-some r e)
 opens-dropped_at (x ∷ rows) zero r e =
-    let closed : cond (is_open (drop_mark x.mark)) 1 0 ≡ 0 = ap (λ (b : Bool). cond b 1 0) (closed_mark x.mark) in
-    let same : cond (is_open x.mark) 1 0 ≡ cond (is_open r.mark) 1 0 = ap {B = ℕ} (λ (a : Row). cond (is_open a.mark) 1 0) (same_Some x r e) in
+    let closed = ap {B = ℕ} (λ (b : Bool). cond b 1 0) (closed_mark x.mark) in
+    let same = ap {B = ℕ} (λ (a : Row). cond (is_open a.mark) 1 0) (same_Some x r e) in
     omega (arith, closed, same)
 opens-dropped_at (x ∷ rows) (suc t) r e = omega (arith, opens-dropped_at rows t r e)
 
@@ -82,7 +82,7 @@ pub record IsCutting (rows : List Row) (next : List (Option ℕ)) (t : ℕ) (new
   pub rest : List ℕ
   pub leads : Leads next (t ∷ (done ++ rest))
   pub once : AreOnce (t ∷ (done ++ rest))
-  pub place : place ≡ first_of rest
+  pub here : place ≡ first_of rest
   pub left : Leads cut rest
   pub drops : new ≡ dropped_all rows done
   pub last : slice_get cut t ≡ Some None
@@ -98,7 +98,7 @@ cutting-none rows next t place rest l o e = record {
   rest = rest;
   leads = l;
   once = o;
-  place = same_Some place (first_of rest) (sym e ∙ l.0);
+  here = same_Some place (first_of rest) (sym e ∙ l.0);
   left = leads-keep next (slice_set next t None) rest (λ u h. set-other next t None u (differs u t rest h (once-behind t [] rest o))) l.1;
   drops = refl;
   last = set-at next t place None e;
@@ -121,7 +121,7 @@ cutting_step rows next t new new' cut u link count count' done rest behind is l 
       rest = behind;
       leads = subst (λ (r : List ℕ). Leads next (t ∷ r)) (sym regrouped) l;
       once = subst (λ (r : List ℕ). AreOnce (t ∷ r)) (sym regrouped) o;
-      place = same_Some link (first_of behind) (sym e ∙ left.0);
+      here = same_Some link (first_of behind) (sym e ∙ left.0);
       left = leads-keep cut (slice_set cut u None) behind (λ v h. set-other cut u None v (differs v u behind h apart)) left.1;
       drops = drop ∙ ap (λ (r : List Row). dropped_at r u) drops ∙ dropped_all-more rows done u;
       last = set-other cut u None t not_t ∙ last;
@@ -137,7 +137,7 @@ pub cutting-next : (rows : List Row) (next : List (Option ℕ)) (t : ℕ) (new n
     → new' ≡ dropped_at new u → slice_get cut u ≡ Some link → count' + opens new' ≡ count + opens new → IsCutting rows next t new cut place count
     → IsCutting rows next t new' (slice_set cut u None) link count'
 cutting-next rows next t new new' cut u place link count count' at drop e counts k =
-    let f = first-some k.rest u (sym k.place ∙ at) in
+    let f = first-some k.rest u (sym k.here ∙ at) in
     cutting_step rows next t new new' cut u link count count' k.done k.rest f.0 f.1 (subst (λ (r : List ℕ). Leads next (t ∷ (k.done ++ r))) f.1 k.leads)
     (subst (λ (r : List ℕ). AreOnce (t ∷ (k.done ++ r))) f.1 k.once) (subst (Leads cut) f.1 k.left) k.drops k.last k.others k.each k.same (counts ∙ k.counts) drop e
 
@@ -145,13 +145,13 @@ cutting-next rows next t new new' cut u place link count count' at drop e counts
 pub cutting-link : (rows : List Row) (next : List (Option ℕ)) (t : ℕ) (new : List Row) (cut : List (Option ℕ)) (u : ℕ) (place : Option ℕ) (count : ℕ) → place ≡ Some u
     → IsCutting rows next t new cut place count → (link : Option ℕ) × (slice_get cut u ≡ Some link)
 cutting-link rows next t new cut u place count at k =
-    let f = first-some k.rest u (sym k.place ∙ at) in
+    let f = first-some k.rest u (sym k.here ∙ at) in
     (first_of f.0, (subst (Leads cut) f.1 k.left).0)
 
 pub cutting-ends : (rows : List Row) (next : List (Option ℕ)) (t : ℕ) (new : List Row) (cut : List (Option ℕ)) (place : Option ℕ) (count : ℕ) → place ≡ None
     → IsCutting rows next t new cut place count → IsCut rows next t new cut count
 cutting-ends rows next t new cut place count at k =
-    let end : k.rest ≡ [] = first-none k.rest (sym k.place ∙ at) in
+    let end : k.rest ≡ [] = first-none k.rest (sym k.here ∙ at) in
     let all : k.done ++ k.rest ≡ k.done = ap (λ (r : List ℕ). k.done ++ r) end ∙ append-nil k.done in
     record {
       rest = k.done;

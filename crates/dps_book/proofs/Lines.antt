@@ -88,6 +88,9 @@ line-first = record {
   there = λ t r e o. root_there t r e;
 }
 
+pub line-new : (rows : List Row) (next : List (Option ℕ)) → rows ≡ row [] Open ∷ [] → next ≡ None ∷ [] → IsLine rows next
+line-new rows next e f = subst (IsLine rows) (sym f) (subst (λ (x : List Row). IsLine x (None ∷ [])) (sym e) line-first)
+
 -- rows are closed or claimed, and nothing else happens
 pub line-later : (old new : List Row) (next : List (Option ℕ)) → ((u : ℕ) → IsBackAt old new u) → length new ≡ length old → IsLine old next → IsLine new next
 line-later old new next back size k = record {
@@ -101,15 +104,15 @@ line-later old new next back size k = record {
 
 pub mark_before : (rows : List Row) (t : ℕ) (p : List ℕ) (m n : Mark) (u : ℕ) (r : Row) → slice_get rows t ≡ Some (row p m) → (is_open n ≡ true → is_open m ≡ true) → is_open r.mark ≡ true
     → ((u ≡ t) × (r ≡ row p n)) ⊎ ((u ≡ t → ⊥) × (slice_get rows u ≡ Some r)) → (q : Row) × (slice_get rows u ≡ Some q) × (r.path ≡ q.path) × (is_open q.mark ≡ true)
-mark_before rows t p m n u r e open o (inl h) =
-    (row p m, ap (slice_get rows) h.0 ∙ e, ap (λ (a : Row). a.path) h.1, open (sym (ap (λ (a : Row). is_open a.mark) h.1) ∙ o))
-mark_before rows t p m n u r e open o (inr h) = (r, h.1, refl, o)
+mark_before rows t p m n u r e opened o (inl h) =
+    (row p m, ap (slice_get rows) h.0 ∙ e, ap (λ (a : Row). a.path) h.1, opened (sym (ap (λ (a : Row). is_open a.mark) h.1) ∙ o))
+mark_before rows t p m n u r e opened o (inr h) = (r, h.1, refl, o)
 
 -- one row has another mark
 pub line-mark : (rows : List Row) (next : List (Option ℕ)) (t : ℕ) (p : List ℕ) (m n : Mark) → slice_get rows t ≡ Some (row p m) → (is_open n ≡ true → is_open m ≡ true) → IsLine rows next
     → IsLine (with_mark rows t p n) next
-line-mark rows next t p m n e open k =
-    line-later rows (with_mark rows t p n) next (λ u r f o. mark_before rows t p m n u r e open o (set-cases rows t (row p n) u r f)) (length-set rows t (row p n)) k
+line-mark rows next t p m n e opened k =
+    line-later rows (with_mark rows t p n) next (λ u r f o. mark_before rows t p m n u r e opened o (set-cases rows t (row p n) u r f)) (length-set rows t (row p n)) k
 
 -- the chain as it stands around an open ticket
 pub record IsAround (rows : List Row) (next : List (Option ℕ)) (t : ℕ) : Type 0 where

@@ -37,7 +37,7 @@ at_end : {A : Type 0} (xs : List A) (b : A) → slice_get (xs ++ b ∷ []) (leng
 at_end [] b = refl
 at_end (x ∷ xs) b = at_end xs b
 
-left_of : {A : Type 0} (xs ys : List A) (v : ℕ) → v < length xs → slice_get (xs ++ ys) v ≡ slice_get xs v
+pub left_of : {A : Type 0} (xs ys : List A) (v : ℕ) → v < length xs → slice_get (xs ++ ys) v ≡ slice_get xs v
 left_of [] ys v h = absurd (omega (arith, h))
 left_of (x ∷ xs) ys zero h = refl
 left_of (x ∷ xs) ys (suc v) h = left_of xs ys v (omega (arith, h))

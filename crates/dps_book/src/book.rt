@@ -48,7 +48,6 @@ impl Model for Book {
     ghost use Rattle.std.specs.Vec.{vec_capacity};
     ghost use Rattle.dps_book.specs.Right.{IsRight};
     ghost use Rattle.dps_book.specs.InOrder.{IsLine};
-    ghost use Rattle.std.specs.Prelude.{◌×◌};
 
     ghost Value = { Ledger };
 

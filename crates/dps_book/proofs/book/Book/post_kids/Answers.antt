@@ -14,7 +14,11 @@ use Rattle.dps_book.specs.declared.entry.Entry.{Entry}
 use Rattle.dps_book.specs.declared.entry.Entry.TheVariants as entry
 use Rattle.dps_book.specs.Ledger.{Ledger, HasMark, IsPost}
 use Rattle.dps_book.proofs.Counts.{owed-set, opens-set, opens-le}
-use Rattle.dps_book.proofs.Ledgers.{ledger_of, kids-right, posted-as}
+use Rattle.dps_core.specs.Pool.{tickets}
+use Rattle.dps_core.proofs.Books.{IsKept}
+use Rattle.dps_book.specs.InOrder.{Leads, AreOnce, IsLine}
+use Rattle.dps_book.proofs.Kids.{line-kids}
+use Rattle.dps_book.proofs.Ledgers.{book-kept, ledger_of, kids-right, posted-as}
 use Rattle.dps_book.proofs.book.Book.post_kids.Goals as goal
 
 pub overflow_sub-self : goal.overflow_sub-self
@@ -24,6 +28,15 @@ overflow_sub-self c =
 
 pub overflow_add-self : goal.overflow_add-self
 overflow_add-self c = omega (arith, opens-le c.self.inside.rows.items, c.self.invariant.0.counted, c.self.inside.rows.ok, c.self.inside.rows.small, c.from.ensures)
+
+pub link_kids-requires : goal.link_kids-requires
+link_kids-requires c =
+    let h : HasMark (the_view c.self.inside) c.args.ticket (Held c.args.worker) = subst (λ (x : Ledger). HasMark x c.args.ticket (Held c.args.worker)) (sym c.self.view_is) c.requires in
+    let same = ap length c.make_room.ensures.next in
+    record {
+      within = omega (arith, slice_get_within c.self.inside.rows.items c.args.ticket (row h.0 (Held c.args.worker)) h.1, c.self.invariant.1.each, same);
+      room = omega (arith, c.in_ok-make_room.ensures.links, same);
+    }
 
 pub index_mut-requires-2 : goal.index_mut-requires-2
 index_mut-requires-2 c =
@@ -80,9 +93,16 @@ invariant_of-self-2 c =
     let enough : 2 * (length rows + n) + 1 ≤ vec_capacity c.push_reserved.new.self = omega (arith, c.in_ok-make_room.ensures.done, c.push_reserved.ensures.capacity) in
     let added : c.push_reserved.new.self.items ≡ journal ++ entry.Posted w t (result.Kids n) ∷ [] = c.push_reserved.ensures.items
     ∙ ap (λ (x : List Entry). x ++ entry.Posted w t (result.Kids n) ∷ []) c.make_room.ensures.journal in
-    kids-right rows (slice_set all t (row c.index_mut.result.now.path Posted)) c.self.inside.best c.self.inside.halted c.self.inside.open_paths (c.self.inside.open_paths - 1 + c.from.result)
+    let next = c.self.inside.next.items in
+    let links = c.link_kids.new.next.items in
+    let size : length links ≡ length next + n = omega (arith, c.link_kids.ensures.each, ap length c.make_room.ensures.next) in
+    let leads = subst (λ (x : List (Option ℕ)). (front behind : List ℕ) → Leads x (front ++ t ∷ behind) → AreOnce (front ++ t ∷ behind) → Leads links (front ++ t ∷ (tickets (length x) n ++ behind)))
+    c.make_room.ensures.next c.link_kids.ensures.leads in
+    let kept : IsKept (book_of rows c.self.inside.best c.self.inside.halted) = book-kept journal (book_of rows c.self.inside.best c.self.inside.halted) c.self.invariant.0.replay in
+    let ordered = line-kids rows c.self.inside.best c.self.inside.halted next links t w n h.0 kept h.1 size leads c.self.invariant.1 in
+    (kids-right rows (slice_set all t (row c.index_mut.result.now.path Posted)) c.self.inside.best c.self.inside.halted c.self.inside.open_paths (c.self.inside.open_paths - 1 + c.from.result)
     holds c.self.inside.claims.items journal c.push_reserved.new.self.items (vec_capacity c.self.inside.journal) (vec_capacity c.push_reserved.new.self) w t n h.0
-    h.1 mine count enough rows_are added c.self.invariant.0
+    h.1 mine count enough rows_are added c.self.invariant.0, subst (λ (x : List Row). IsLine x links) (sym rows_are) ordered)
 
 pub returns-clause-done : goal.returns-clause-done
 returns-clause-done c = λ path e.
