@@ -100,16 +100,39 @@ closed_ahead rows t p v e = λ r q f g o a. absurd (let clash : false ≡ true =
 order_once : (front behind : List ℕ) (t first n u : ℕ) → times u (front ++ t ∷ behind) ≤ 1 → (first ≤ u → times u (front ++ t ∷ behind) ≡ 0) → (u < first) ⊎ (first ≤ u)
     → times u (front ++ t ∷ (tickets first n ++ behind)) ≤ 1
 order_once front behind t first n u o past (inl l) =
-    omega (arith, o, times-tickets_below u first n l, times-split u t front behind, times-split u t front (tickets first n ++ behind), times-append u (t ∷ []) behind,
-    times-append u (t ∷ []) (tickets first n ++ behind), times-append u (tickets first n) behind)
+    omega (
+      arith,
+      o,
+      times-tickets_below u first n l,
+      times-split u t front behind,
+      times-split u t front (tickets first n ++ behind),
+      times-append u (t ∷ []) behind,
+      times-append u (t ∷ []) (tickets first n ++ behind),
+      times-append u (tickets first n) behind,
+    )
 order_once front behind t first n u o past (inr l) =
-    omega (arith, past l, times-tickets_once u first n, times-split u t front behind, times-split u t front (tickets first n ++ behind), times-append u (t ∷ []) behind,
-    times-append u (t ∷ []) (tickets first n ++ behind), times-append u (tickets first n) behind)
+    omega (
+      arith,
+      past l,
+      times-tickets_once u first n,
+      times-split u t front behind,
+      times-split u t front (tickets first n ++ behind),
+      times-append u (t ∷ []) behind,
+      times-append u (t ∷ []) (tickets first n ++ behind),
+      times-append u (tickets first n) behind,
+    )
 
 stands_in : (front behind : List ℕ) (t first n u : ℕ) → 1 ≤ times u (front ++ t ∷ behind) + times u (tickets first n) → 1 ≤ times u (front ++ t ∷ (tickets first n ++ behind))
 stands_in front behind t first n u h =
-    omega (arith, h, times-split u t front behind, times-split u t front (tickets first n ++ behind), times-append u (t ∷ []) behind,
-    times-append u (t ∷ []) (tickets first n ++ behind), times-append u (tickets first n) behind)
+    omega (
+      arith,
+      h,
+      times-split u t front behind,
+      times-split u t front (tickets first n ++ behind),
+      times-append u (t ∷ []) behind,
+      times-append u (t ∷ []) (tickets first n ++ behind),
+      times-append u (tickets first n) behind,
+    )
 
 grown_there : (rows : List Row) (next : List (Option ℕ)) (t w : ℕ) (p : List ℕ) (n u : ℕ) (r : Row) (k : IsAround rows next t) → slice_get rows t ≡ Some (row p (Held w)) → is_open r.mark ≡ true
     → (slice_get (with_mark rows t p Posted) u ≡ Some r) ⊎ ((j : ℕ) × (u ≡ length (with_mark rows t p Posted) + j) × (slice_get (kids p 0 n) j ≡ Some r))
@@ -138,14 +161,14 @@ line-kids rows best halted next new t w n p kept e size links line =
     let kept_order : AreAscending all old = keep_ascending rows all old (λ u h. old_back rows t w p n u e (inside u h)) k.ascending in
     let apart = λ (v : ℕ) (h : 1 ≤ times v k.behind) (z : t ≡ v). differs v t k.behind h (once-behind t k.front k.behind k.once) (sym z) in
     let kid_last = λ (u v : ℕ) (l : first ≤ u) (h : 1 ≤ times v k.behind).
-        kid_behind rows best halted t w p n u v kept e l (in_behind v h) (apart v h) (behind-ticket rows k.front k.behind t v k.ascending h) in
+    kid_behind rows best halted t w p n u v kept e l (in_behind v h) (apart v h) (behind-ticket rows k.front k.behind t v k.ascending h) in
     let tail : AreAscending all (tickets first n ++ k.behind) =
     kids_ascend all first n k.behind (λ u v l m. kid_kid rows t p n u v l m) kid_last (ascending-suffix all k.front (t ∷ k.behind) kept_order).1 in
     let parent : slice_get all t ≡ Some (row p Posted) = append-left (with_mark rows t p Posted) (kids p 0 n) t (row p Posted) (set-at rows t (row p (Held w)) (row p Posted) e) in
     let around_kids : AreAscending all (t ∷ (tickets first n ++ k.behind)) = (all-of all t (tickets first n ++ k.behind) (λ v h. closed_ahead all t p v parent), tail) in
     let from_front = λ (u v : ℕ) (h : 1 ≤ times u k.front) (m : 1 ≤ times v (tickets first n ++ k.behind)).
-        kid_or all u first n v k.behind (λ x l. front_kid rows t w p n u x e (in_front u h) l (front-ticket rows k.front k.behind t u k.ascending h))
-        (λ x g. front-behind all k.front k.behind t u x kept_order h g) m (cases_lt 0 (times v k.behind)) in
+    kid_or all u first n v k.behind (λ x l. front_kid rows t w p n u x e (in_front u h) l (front-ticket rows k.front k.behind t u k.ascending h))
+    (λ x g. front-behind all k.front k.behind t u x kept_order h g) m (cases_lt 0 (times v k.behind)) in
     record {
       each = size ∙ (let s : length next + n ≡ length all = omega (arith, line.each, length-append (with_mark rows t p Posted) (kids p 0 n), length-kids p 0 n, length-set rows t (row p Posted)) in s);
       order = k.front ++ t ∷ (tickets first n ++ k.behind);

@@ -45,10 +45,12 @@ invariant_of-self c =
     let same : c.index_mut.result.now ≡ row p Open = c.index_mut.ensures.value ∙ get_or_from_slice_get rows t (row p Open) c.index_mut.result.now e in
     let ordered : IsLine (slice_set rows t (row c.index_mut.result.now.path (Held w))) c.self.inside.next.items =
     subst (λ (x : List ℕ). IsLine (slice_set rows t (row x (Held w))) c.self.inside.next.items) (sym (ap (λ (r : Row). r.path) same))
-    (line-mark rows c.self.inside.next.items t p Open (Held w) e (λ h. refl) c.self.invariant.1) in
-    (claimed-right rows c.self.inside.best c.self.inside.halted c.self.inside.open_paths holds claims c.self.inside.journal.items c.push_reserved.new.self.items
-    (vec_capacity c.self.inside.journal) (vec_capacity c.push_reserved.new.self) w t n p c.index_mut.result.now.path
-    c.if-self.false e free mine (ap (λ (r : Row). r.path) same) c.push_reserved.ensures.items c.push_reserved.ensures.capacity k, ordered)
+    (line-mark rows c.self.inside.next.items t p Open (Held w) e (λ h. refl) c.self.invariant.1) in (
+      claimed-right rows c.self.inside.best c.self.inside.halted c.self.inside.open_paths holds claims c.self.inside.journal.items c.push_reserved.new.self.items
+          (vec_capacity c.self.inside.journal) (vec_capacity c.push_reserved.new.self) w t n p c.index_mut.result.now.path
+          c.if-self.false e free mine (ap (λ (r : Row). r.path) same) c.push_reserved.ensures.items c.push_reserved.ensures.capacity k,
+      ordered,
+    )
 
 pub returns : goal.returns
 returns c =

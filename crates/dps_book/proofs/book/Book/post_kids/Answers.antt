@@ -99,10 +99,12 @@ invariant_of-self-2 c =
     let leads = subst (λ (x : List (Option ℕ)). (front behind : List ℕ) → Leads x (front ++ t ∷ behind) → AreOnce (front ++ t ∷ behind) → Leads links (front ++ t ∷ (tickets (length x) n ++ behind)))
     c.make_room.ensures.next c.link_kids.ensures.leads in
     let kept : IsKept (book_of rows c.self.inside.best c.self.inside.halted) = book-kept journal (book_of rows c.self.inside.best c.self.inside.halted) c.self.invariant.0.replay in
-    let ordered = line-kids rows c.self.inside.best c.self.inside.halted next links t w n h.0 kept h.1 size leads c.self.invariant.1 in
-    (kids-right rows (slice_set all t (row c.index_mut.result.now.path Posted)) c.self.inside.best c.self.inside.halted c.self.inside.open_paths (c.self.inside.open_paths - 1 + c.from.result)
-    holds c.self.inside.claims.items journal c.push_reserved.new.self.items (vec_capacity c.self.inside.journal) (vec_capacity c.push_reserved.new.self) w t n h.0
-    h.1 mine count enough rows_are added c.self.invariant.0, subst (λ (x : List Row). IsLine x links) (sym rows_are) ordered)
+    let ordered = line-kids rows c.self.inside.best c.self.inside.halted next links t w n h.0 kept h.1 size leads c.self.invariant.1 in (
+      kids-right rows (slice_set all t (row c.index_mut.result.now.path Posted)) c.self.inside.best c.self.inside.halted c.self.inside.open_paths (c.self.inside.open_paths - 1 + c.from.result)
+          holds c.self.inside.claims.items journal c.push_reserved.new.self.items (vec_capacity c.self.inside.journal) (vec_capacity c.push_reserved.new.self) w t n h.0
+          h.1 mine count enough rows_are added c.self.invariant.0,
+      subst (λ (x : List Row). IsLine x links) (sym rows_are) ordered,
+    )
 
 pub returns-clause-done : goal.returns-clause-done
 returns-clause-done c = λ path e.

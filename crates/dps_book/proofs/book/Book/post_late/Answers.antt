@@ -44,10 +44,12 @@ invariant_of-self c =
     let same : c.index_mut.result.now ≡ row h.0 (DroppedHeld w) = c.index_mut.ensures.value ∙ get_or_from_slice_get rows t (row h.0 (DroppedHeld w)) c.index_mut.result.now h.1 in
     let ordered : IsLine (slice_set rows t (row c.index_mut.result.now.path Dropped)) c.self.inside.next.items =
     subst (λ (x : List ℕ). IsLine (slice_set rows t (row x Dropped)) c.self.inside.next.items) (sym (ap (λ (r : Row). r.path) same))
-    (line-mark rows c.self.inside.next.items t h.0 (DroppedHeld w) Dropped h.1 (λ z. cc) c.self.invariant.1) in
-    (late-right rows c.self.inside.best c.self.inside.halted c.self.inside.open_paths holds c.self.inside.claims.items c.self.inside.journal.items c.push_reserved.new.self.items
-    (vec_capacity c.self.inside.journal) (vec_capacity c.push_reserved.new.self) w t h.0 c.index_mut.result.now.path c.args.found
-    h.1 mine (ap (λ (r : Row). r.path) same) c.push_reserved.ensures.items c.push_reserved.ensures.capacity c.self.invariant.0, ordered)
+    (line-mark rows c.self.inside.next.items t h.0 (DroppedHeld w) Dropped h.1 (λ z. cc) c.self.invariant.1) in (
+      late-right rows c.self.inside.best c.self.inside.halted c.self.inside.open_paths holds c.self.inside.claims.items c.self.inside.journal.items c.push_reserved.new.self.items
+          (vec_capacity c.self.inside.journal) (vec_capacity c.push_reserved.new.self) w t h.0 c.index_mut.result.now.path c.args.found
+          h.1 mine (ap (λ (r : Row). r.path) same) c.push_reserved.ensures.items c.push_reserved.ensures.capacity c.self.invariant.0,
+      ordered,
+    )
 
 pub returns : goal.returns
 returns c = λ path e.

@@ -21,6 +21,11 @@ use Rattle.dps_book.proofs.Stops.{cut-rows, line-stop}
 use Rattle.dps_book.proofs.Ledgers.{ledger_of, stop-right, posted-as}
 use Rattle.dps_book.proofs.book.Book.post_stop.Goals as goal
 
+pub overflow_sub-self : goal.overflow_sub-self
+overflow_sub-self c =
+    let h : HasMark (the_view c.self.inside) c.args.ticket (Held c.args.worker) = subst (λ (x : Ledger). HasMark x c.args.ticket (Held c.args.worker)) (sym c.self.view_is) c.requires in
+    omega (arith, opens-set c.self.inside.rows.items c.args.ticket (row h.0 (Held c.args.worker)) (row h.0 Posted) h.1, c.self.invariant.0.counted)
+
 pub index_mut-requires-2 : goal.index_mut-requires-2
 index_mut-requires-2 c =
     let h : HasMark (the_view c.self.inside) c.args.ticket (Held c.args.worker) = subst (λ (x : Ledger). HasMark x c.args.ticket (Held c.args.worker)) (sym c.self.view_is) c.requires in
@@ -44,8 +49,8 @@ cut_is : (rows new : List Row) (next cut : List (Option ℕ)) (t w count : ℕ) 
     → IsCut (with_mark rows t p Posted) next t new cut count → new ≡ map (dropped_after p) (with_mark rows t p Posted)
 cut_is rows new next cut t w count p e line c = cut-rows rows new next cut t w count p (around rows next t (row p (Held w)) e refl line) e c
 
-pub drop_behind-requires : goal.drop_behind-requires
-drop_behind-requires c =
+pub drop_behind-dropped-requires : goal.drop_behind-dropped-requires
+drop_behind-dropped-requires c =
     let rows = c.self.inside.rows.items in
     let next = c.self.inside.next.items in
     let w = c.args.worker in
@@ -67,16 +72,18 @@ invariant_of-self c =
     let mine : slice_get holds w ≡ Some (Some t) = c.self.invariant.0.holding.held t w (row h.0 (Held w)) h.1 refl in
     let same : c.index_mut.result.now ≡ row h.0 (Held w) = c.index_mut.ensures.value ∙ get_or_from_slice_get rows t (row h.0 (Held w)) c.index_mut.result.now h.1 in
     let next = c.self.inside.next.items in
-    let new = c.drop_behind.new.rows.items in
-    let cut = c.drop_behind.new.next.items in
-    let left = c.self.inside.open_paths - 1 - c.drop_behind.result in
-    let is : IsCut (with_mark rows t h.0 Posted) next t new cut c.drop_behind.result = cut_at rows new next cut t w c.drop_behind.result h.0 c.index_mut.result.now same c.drop_behind.ensures in
-    let after : new ≡ map (dropped_after h.0) (with_mark rows t h.0 Posted) = cut_is rows new next cut t w c.drop_behind.result h.0 h.1 c.self.invariant.1 is in
+    let new = c.drop_behind-dropped.new.rows.items in
+    let cut = c.drop_behind-dropped.new.next.items in
+    let left = c.self.inside.open_paths - 1 - c.drop_behind-dropped.result in
+    let is : IsCut (with_mark rows t h.0 Posted) next t new cut c.drop_behind-dropped.result = cut_at rows new next cut t w c.drop_behind-dropped.result h.0 c.index_mut.result.now same c.drop_behind-dropped.ensures in
+    let after : new ≡ map (dropped_after h.0) (with_mark rows t h.0 Posted) = cut_is rows new next cut t w c.drop_behind-dropped.result h.0 h.1 c.self.invariant.1 is in
     let count : left ≡ opens new = omega (arith, is.counts, opens-set rows t (row h.0 (Held w)) (row h.0 Posted) h.1, c.self.invariant.0.counted) in
-    let ordered : IsLine new cut = line-stop rows new next cut t w c.drop_behind.result h.0 h.1 is after c.self.invariant.1 in
-    (stop-right rows new c.self.inside.best c.self.inside.halted c.self.inside.open_paths left holds c.self.inside.claims.items
-    c.self.inside.journal.items c.push_reserved.new.self.items (vec_capacity c.self.inside.journal) (vec_capacity c.push_reserved.new.self) w t c.args.kind h.0
-    h.1 mine count after c.push_reserved.ensures.items c.push_reserved.ensures.capacity c.self.invariant.0, ordered)
+    let ordered : IsLine new cut = line-stop rows new next cut t w c.drop_behind-dropped.result h.0 h.1 is after c.self.invariant.1 in (
+      stop-right rows new c.self.inside.best c.self.inside.halted c.self.inside.open_paths left holds c.self.inside.claims.items
+          c.self.inside.journal.items c.push_reserved.new.self.items (vec_capacity c.self.inside.journal) (vec_capacity c.push_reserved.new.self) w t c.args.kind h.0
+          h.1 mine count after c.push_reserved.ensures.items c.push_reserved.ensures.capacity c.self.invariant.0,
+      ordered,
+    )
 
 pub returns : goal.returns
 returns c = λ path e.
@@ -86,10 +93,10 @@ returns c = λ path e.
     let here : slice_get rows t ≡ Some (row path (Held w)) = ap (λ (x : Ledger). slice_get x.book.rows t) c.self.view_is ∙ e in
     let same : c.index_mut.result.now ≡ row path (Held w) = c.index_mut.ensures.value ∙ get_or_from_slice_get rows t (row path (Held w)) c.index_mut.result.now here in
     let next = c.self.inside.next.items in
-    let new = c.drop_behind.new.rows.items in
-    let cut = c.drop_behind.new.next.items in
-    let is : IsCut (with_mark rows t path Posted) next t new cut c.drop_behind.result = cut_at rows new next cut t w c.drop_behind.result path c.index_mut.result.now same c.drop_behind.ensures in
-    let after : new ≡ map (dropped_after path) (with_mark rows t path Posted) = cut_is rows new next cut t w c.drop_behind.result path here c.self.invariant.1 is in
+    let new = c.drop_behind-dropped.new.rows.items in
+    let cut = c.drop_behind-dropped.new.next.items in
+    let is : IsCut (with_mark rows t path Posted) next t new cut c.drop_behind-dropped.result = cut_at rows new next cut t w c.drop_behind-dropped.result path c.index_mut.result.now same c.drop_behind-dropped.ensures in
+    let after : new ≡ map (dropped_after path) (with_mark rows t path Posted) = cut_is rows new next cut t w c.drop_behind-dropped.result path here c.self.invariant.1 is in
     let now : Ledger = ledger_of (book_of new (Some (t, c.args.kind)) c.self.inside.halted) (length (slice_set c.self.inside.holds.items w None))
     c.push_reserved.new.self.items in
     subst (λ (x : Ledger). IsPost x w t path (result.Stop c.args.kind) answer.Best now) c.self.view_is
