@@ -96,3 +96,18 @@ number_next ks xs i d h = rw (add-one, drop-cons xs i d) refl
 
 pub numbers_all : (ks xs : List ℕ) (i : ℕ) → length xs ≤ i → insert_all nat_eq ks (drop i xs) ≡ ks
 numbers_all ks xs i h = ap (insert_all nat_eq ks) (drop_all i xs h)
+
+-- one number more, which is let through or not
+pub once_next : (ks xs : List ℕ) (x : ℕ) → ks ≡ each_once xs → insert_key nat_eq ks x ≡ each_once (xs ++ x ∷ [])
+once_next ks xs x e = ap (λ ys. insert_key nat_eq ys x) e ∙ once_more xs (x ∷ [])
+
+-- the numbers of a list of which each stands once that are not among others
+pub others_once : (own known xs : List ℕ) → known ≡ insert_all nat_eq [] own
+    → each_once (filter (λ y. not (list_any (nat_eq y) known)) (each_once xs)) ≡ filter (λ y. not (list_any (nat_eq y) own)) (each_once xs)
+others_once own known xs e =
+    let k : known ≡ each_once own = e ∙ found_once own in
+    let same : (λ (y : ℕ). not (list_any (nat_eq y) known)) ≡ (λ (y : ℕ). not (list_any (nat_eq y) own)) =
+    (λ i y. not ((ap (list_any (nat_eq y)) k ∙ among_once y own) i)) in
+    once_filtered (λ y. not (list_any (nat_eq y) known)) (each_once xs)
+    ∙ ap (filter (λ y. not (list_any (nat_eq y) known))) (once_again xs)
+    ∙ ap (λ p. filter p (each_once xs)) same

@@ -38,13 +38,17 @@ level_found P levels found more i d h e f =
 pub one_more : {A : Type 0} (xs : List A) (i : ℕ) (d : A) → i < length xs → take (i + 1) xs ≡ take i xs ++ get_or xs i d ∷ []
 one_more xs i d h = rw add-one (take-suc xs i d h)
 
-pub next_tree : (ts : List Tree) (i : ℕ) (d : Tree) → i < length ts → insert_all nat_eq (each_once (flat_map occurrences (take i ts))) (variables (get_or ts i d)) ≡ each_once (flat_map occurrences (take (i + 1) ts))
-next_tree ts i d h =
-    once_more (flat_map occurrences (take i ts)) (occurrences (get_or ts i d))
+-- the variables of one binding more
+pub next_binding : (b : ℕ → Tree) (xs : List ℕ) (i d : ℕ) → i < length xs
+    → insert_all nat_eq (each_once (flat_map occurrences (map b (take i xs)))) (variables (b (get_or xs i d))) ≡ each_once (flat_map occurrences (map b (take (i + 1) xs)))
+next_binding b xs i d h =
+    let more : map b (take (i + 1) xs) ≡ map b (take i xs) ++ b (get_or xs i d) ∷ [] =
+    ap (map b) (one_more xs i d h) ∙ map-append b (take i xs) (get_or xs i d ∷ []) in
+    once_more (flat_map occurrences (map b (take i xs))) (occurrences (b (get_or xs i d)))
     ∙ ap each_once
-    (ap (λ xs. flat_map occurrences (take i ts) ++ xs) (sym (append-nil (occurrences (get_or ts i d))))
-    ∙ sym (flat_map-append occurrences (take i ts) (get_or ts i d ∷ []))
-    ∙ ap (flat_map occurrences) (sym (one_more ts i d h)))
+    (ap (λ ys. flat_map occurrences (map b (take i xs)) ++ ys) (sym (append-nil (occurrences (b (get_or xs i d)))))
+    ∙ sym (flat_map-append occurrences (map b (take i xs)) (b (get_or xs i d) ∷ []))
+    ∙ ap (flat_map occurrences) (sym more))
 
 -- the variables of the trees of labels
 abbrev pub of_labels : List Label → List ℕ

@@ -2,17 +2,29 @@
 //! expanded.
 #![tactic(auto)]
 
+mod asking;
 mod beginning;
 mod bindings;
+mod configs;
 mod consistency;
 mod copying;
 mod examples;
+mod labels;
 mod laws;
+mod levels;
 mod node;
 mod numbering;
 mod parts;
+mod renewal;
+mod scene;
+mod splitting;
+#[cfg(test)]
+mod tests;
+mod trees;
+mod values;
 mod words;
 
+pub use asking::{Answer, Found, Query, ask, ask_whole, find_counted};
 pub use beginning::root;
 pub use consistency::consistent;
 pub use examples::{
@@ -27,4 +39,6 @@ pub use laws::{
 pub use node::{Node, SymConfig};
 pub use numbering::variables;
 pub use parts::partition;
+pub use scene::scene;
+pub use splitting::split;
 pub use words::ground_trace;
