@@ -18,4 +18,6 @@ pub mod Entries
 pub mod Opening
 pub mod Lowest
 pub mod Put
+pub mod Renewed
 pub mod Valuing
+pub mod Asked

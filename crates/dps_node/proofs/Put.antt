@@ -1,5 +1,7 @@
 -- What is put for variables, one variable after another.
-use Rattle.std.proofs.Common.{◌≡◌, ℕ, Bool, true, false, cond, ◌||◌, nat_eq, List, [], ◌∷◌, ◌++◌, Option, Some, None, unwrap_or, refl, ap, sym, subst, ◌∙◌, inl, inr}
+use Rattle.std.proofs.Common.{◌≡◌, ℕ, ◌+◌, ◌<◌, length, get_or, take, append_assoc, Bool, true, false, cond, ◌||◌, nat_eq, List, [], ◌∷◌, ◌++◌, Option, Some, None, unwrap_or, refl, ap, sym, subst, ◌∙◌, inl, inr}
+use Rattle.std.proofs.lemmas.List.{append-nil}
+use Rattle.dps_node.proofs.Numbered.{one_more}
 use Rattle.std.specs.Prelude.{◌≢◌, ◌⊎◌}
 use Rattle.std.proofs.Math.Dec.{eqb}
 use Rattle.std.proofs.lemmas.Bool.Decides.{eqb_tells}
@@ -107,3 +109,15 @@ put_image z xs pairs h others = λ i x. each x i
 -- nothing is put at first
 pub nothing_put : (z : ℕ → Tree) → PutsFor z [] []
 nothing_put z x = refl
+
+-- what is bound is put already
+pub put_before : (z : ℕ → Tree) (xs : List ℕ) (x : ℕ) (u : Tree) (pairs : List (ℕ × Tree)) → PutsFor z xs pairs → bound pairs x ≡ Some u → PutsFor z (xs ++ x ∷ []) pairs
+put_before z xs x u pairs h e = put_kept z xs x pairs h (inl ((among_bound z xs x u pairs h e).0))
+
+-- a step from the first variables of a list to one more
+pub put_next : (z : ℕ → Tree) (xs vs : List ℕ) (i d : ℕ) (pairs : List (ℕ × Tree)) → i < length vs → PutsFor z ((xs ++ take i vs) ++ get_or vs i d ∷ []) pairs → PutsFor z (xs ++ take (i + 1) vs) pairs
+put_next z xs vs i d pairs h p =
+    subst (λ ys. PutsFor z ys pairs) (append_assoc xs (take i vs) (get_or vs i d ∷ []) ∙ ap (λ ys. xs ++ ys) (sym (one_more vs i d h))) p
+
+pub put_first : (z : ℕ → Tree) (xs vs : List ℕ) (pairs : List (ℕ × Tree)) → PutsFor z xs pairs → PutsFor z (xs ++ take 0 vs) pairs
+put_first z xs vs pairs p = subst (λ ys. PutsFor z ys pairs) (sym (append-nil xs)) p

@@ -3,7 +3,7 @@ use Rattle.std.proofs.Common.{◌≡◌, ℕ, zero, suc, ◌+◌, ◌<◌, ◌�
 use Rattle.std.proofs.lemmas.List.{map-append, length-map, length-take-le}
 use Rattle.std.proofs.lemmas.Option.{slice_get_within, slice_get-get_or}
 use Rattle.dps_terms.specs.Tree.{Leaf, public, private, var, ax, entry, rigid, Tree, leaf, StandsIn}
-use Rattle.dps_terms.specs.Replace.{substitute, numbered, entries_to, put_entries}
+use Rattle.dps_terms.specs.Replace.{substitute, numbered, variables_to, entries_to, put_entries}
 use Rattle.dps_terms.proofs.Replacing.{replace_agrees}
 use Rattle.dps_solver.specs.Solutions.{valued}
 use Rattle.dps_node.specs.Splits.{HasOlderEntries}
@@ -35,8 +35,6 @@ value_alike : (z : ℕ → Tree) (ds more : List Tree) (v : Tree) → ((x j : �
     → substitute (valued (ds ++ more) z) v ≡ substitute (valued ds z) v
 value_alike z ds more v h = replace_agrees _ _ v each
   where
-    use Rattle.dps_terms.specs.Replace.{variables_to}
-
     each : (x : Leaf) → StandsIn x v → variables_to (valued (ds ++ more) z) x ≡ variables_to (valued ds z) x
     each (public n) s = refl
     each (private n) s = refl

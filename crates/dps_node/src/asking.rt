@@ -1,13 +1,16 @@
 //! Questions, and how they are asked.
-ghost use Rattle.std.specs.Prelude.{◌≡◌, ◌≤◌, ◌<◌, ◌-◌, ◌++◌, ℕ, All, IfOk, IsTrue, List, Option, map};
+ghost use Rattle.std.specs.Prelude.{◌≡◌, ◌≤◌, ◌<◌, ◌+◌, ◌-◌, ◌++◌, ℕ, IfOk, OnOk, List, map};
 ghost use Rattle.std.specs.List.{AllZip, position_from};
+ghost use Rattle.dps_terms.specs.Tree.{leaf, var};
+ghost use Rattle.dps_terms.specs.Bindings.{image};
+ghost use Rattle.dps_terms.specs.Same.{same};
 ghost use Rattle.dps_search.specs.Code.{scene_of};
 ghost use Rattle.dps_node.specs.Questions.{Found as FoundValue, Answer as AnswerValue, FindsAll, Answers, AnswersWhole, AsksIn};
 ghost use Rattle.dps_node.specs.Asking.{query_of, IsFound, IsAnswer, binds_nothing, is_plain_as};
 
 use crate::renewal::is_variable;
 use dps_search::{Ask, Mgs, Scene, Steps, Stop, solve};
-use dps_terms::{Subst, Term};
+use dps_terms::{NoMemory, Subst, Term};
 use std::alloc::Global;
 
 /// An ask, with the term whose value or tree is wanted. A question is a list of these.
@@ -117,7 +120,9 @@ pub fn find_counted(
 }
 
 /// Adds the solutions of the query at the place.
-fn append(found: &mut Vec<Found>, place: usize, solutions: Vec<Mgs>) -> Result<(), Stop> {
+fn append(found: &mut Vec<Found>, place: usize, solutions: Vec<Mgs>) -> Result<(), NoMemory>
+    ensures { OnOk result (found.new.items ≡ found.old.items ++ map (λ s. record { place = place; solution = s }) solutions.items) }
+{
     let mut left = solutions;
     left.reverse();
     while let Some(solution) = left.pop() {
@@ -151,7 +156,9 @@ fn binds_nothing(levels: &[(u64, u32)], bindings: &Subst) -> bool
 }
 
 /// Whether the variable is not bound to another tree.
-fn stays(bindings: &Subst, variable: u64) -> bool {
+fn stays(bindings: &Subst, variable: u64) -> bool
+    ensures { result ≡ same (image bindings.now variable) (leaf (var variable)) }
+{
     match bindings.get(variable) {
         Some(tree) => is_variable(tree.whole(), variable),
         None => true,

@@ -12,8 +12,8 @@ ghost use Rattle.dps_node.specs.Code.{config_of};
 
 use crate::SymConfig;
 use crate::renewal::Renewal;
-use crate::trees::trees_under;
-use crate::values::{put_values, values_under};
+use crate::replaced::trees_under;
+use crate::valuation::{put_values, values_under};
 use dps_process::Process;
 use dps_terms::{NoMemory, Subst};
 use std::alloc::Global;

@@ -16,12 +16,12 @@ mod node;
 mod numbering;
 mod parts;
 mod renewal;
-mod scene;
-mod splitting;
+mod replaced;
+mod scenes;
+mod splits;
 #[cfg(test)]
 mod tests;
-mod trees;
-mod values;
+mod valuation;
 mod words;
 
 pub use asking::{Answer, Found, Query, ask, ask_whole, find_counted};
@@ -39,6 +39,6 @@ pub use laws::{
 pub use node::{Node, SymConfig};
 pub use numbering::variables;
 pub use parts::partition;
-pub use scene::scene;
-pub use splitting::split;
+pub use scenes::scene;
+pub use splits::split;
 pub use words::ground_trace;

@@ -125,6 +125,7 @@ fn renewed(
 }
 
 /// Puts the tree for the variable, where it is another one, unless that is done already.
+#[tactic(auto, using(crate::proofs::Put::put_kept, crate::proofs::Put::put_more, crate::proofs::Put::put_before))]
 pub(crate) fn put(by: &mut Subst, variable: u64, tree: Term) -> Result<(), NoMemory>
     ensures { (z : ℕ → Tree) (xs : List ℕ) → tree ≡ z variable → PutsFor z xs by.old → OnOk result (PutsFor z (xs ++ variable ∷ []) by.new) }
 {

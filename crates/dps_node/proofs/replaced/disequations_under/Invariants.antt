@@ -2,7 +2,7 @@ use Rattle.std.proofs.Common.{◌≡◌, map, take}
 use Rattle.dps_terms.specs.Bindings.{image}
 use Rattle.dps_solver.specs.Code.{disequation_of}
 use Rattle.dps_node.specs.Splits.{disequation_under}
-use Rattle.dps_node.proofs.trees.disequations_under.Given as goal
+use Rattle.dps_node.proofs.replaced.disequations_under.Given as goal
 
 abbrev pub invariant-loop-disequation : goal.invariant-loop-disequation
 invariant-loop-disequation l =

@@ -12,7 +12,7 @@ use crate::Node;
 use crate::configs::configs_under;
 use crate::labels::labels_under;
 use crate::renewal::{Renewal, renew};
-use crate::trees::disequations_under;
+use crate::replaced::disequations_under;
 use dps_solver::Disequation;
 use dps_terms::{NoMemory, Subst, Term};
 use std::alloc::{AllocError, Global};
