@@ -20,4 +20,3 @@ pub mod Lowest
 pub mod Put
 pub mod Renewed
 pub mod Valuing
-pub mod Asked

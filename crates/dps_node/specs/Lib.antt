@@ -9,7 +9,6 @@ pub mod Truth
 pub mod Invariant
 pub mod Code
 pub mod Putting
-pub mod Asking
 pub mod Outcome
 pub mod Settling
 pub mod Knowing

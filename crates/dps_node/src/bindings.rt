@@ -11,6 +11,7 @@ use indexmap::IndexSet;
 use std::alloc::Global;
 
 /// The variables of the trees of these variables that are none of them, each once, by first occurrence.
+#[tactic(auto, using(crate::proofs::EachOnce::others_once))]
 pub(crate) fn new_variables(
     alloc: Global,
     own: &[u64],
@@ -60,7 +61,7 @@ pub(crate) fn variables_of_binding(
 }
 
 /// The numbers that are not in the set, each once, in order.
-#[tactic(auto, using(crate::proofs::EachOnce::once_next))]
+#[tactic(auto, using(crate::proofs::EachOnce::passes_once, crate::proofs::EachOnce::stops_once))]
 fn not_among(
     alloc: Global,
     numbers: &[u64],

@@ -2,7 +2,6 @@
 //! expanded.
 #![tactic(auto)]
 
-mod asking;
 mod beginning;
 mod bindings;
 mod configs;
@@ -19,12 +18,9 @@ mod renewal;
 mod replaced;
 mod scenes;
 mod splits;
-#[cfg(test)]
-mod tests;
 mod valuation;
 mod words;
 
-pub use asking::{Answer, Found, Query, ask, ask_whole, find_counted};
 pub use beginning::root;
 pub use consistency::consistent;
 pub use examples::{

@@ -90,6 +90,7 @@ impl<'a> Replacement for NewNumbers<'a> {
 }
 
 /// Puts the trees of the variables, with new numbers.
+#[tactic(auto, using(crate::proofs::Put::put_next, crate::proofs::Put::put_first))]
 fn put_renewed(
     alloc: Global,
     by: &mut Subst,

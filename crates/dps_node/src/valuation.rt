@@ -14,6 +14,7 @@ use std::alloc::Global;
 
 /// The values of the entries, with the values of what is put for their variables, which are computed from themselves: each
 /// needs those before it alone.
+#[tactic(auto, using(crate::proofs::Valuing::next_value))]
 pub(crate) fn values_under(
     alloc: Global,
     values: &[Term],
@@ -107,6 +108,7 @@ fn entry_value(values: &[Term], number: u64) -> Option<&Term>
 }
 
 /// Puts the values of the variables' trees.
+#[tactic(auto, using(crate::proofs::Put::put_next, crate::proofs::Put::put_first))]
 pub(crate) fn put_values(
     alloc: Global,
     valued: &mut Subst,
