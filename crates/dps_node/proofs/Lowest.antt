@@ -49,3 +49,9 @@ pub pair_passes : (P : ℕ × ℕ → Bool) (ps : List (ℕ × ℕ)) (i : ℕ) (
 pair_passes P ps i d now whole h t f =
     sym (ap (folded now) (first_pair P ps i d h ∙ ap (λ b. map (λ (p : ℕ × ℕ). p.1) (cond b (get_or ps i d ∷ filter P (drop (i + 1) ps)) (filter P (drop (i + 1) ps)))) t))
     ∙ f
+
+-- what is found where no pair is left
+pub all_folded : (P : ℕ × ℕ → Bool) (ps : List (ℕ × ℕ)) (i : ℕ) (now : Option ℕ) → length ps ≤ i
+    → folded now (levels_where P (drop i ps)) ≡ folded None (levels_where P ps)
+    → unwrap_or now 0 ≡ least (levels_where P ps)
+all_folded P ps i now h f = ap (λ o. unwrap_or o 0) (sym (ap (λ qs. folded now (levels_where P qs)) (drop_all i ps h)) ∙ f) ∙ folded_least (levels_where P ps)

@@ -78,3 +78,11 @@ filter_alike p q xs h = ap (λ t. filter t xs) (λ i x. h x i)
 -- what is found by the numbers, each once, is what stands in the trees
 pub levels_of_those : (node : Node) → filter (λ (p : ℕ × ℕ). is_among p.0 (each_once (flat_map occurrences (label_trees node)))) (numbered_from 1 node.levels) ≡ variables_of node
 levels_of_those node = filter_alike _ _ (numbered_from 1 node.levels) (λ p. among_once p.0 (flat_map occurrences (label_trees node)))
+
+-- the trees of one label more
+pub label_trees_more : (ls : List LabelValue) (i : ℕ) (d : LabelValue) → i < length ls
+    → filter_map label_tree (map label_of (take (i + 1) ls)) ≡ filter_map label_tree (map label_of (take i ls)) ++ filter_map label_tree (label_of (get_or ls i d) ∷ [])
+label_trees_more ls i d h =
+    ap (λ xs. filter_map label_tree (map label_of xs)) (one_more ls i d h)
+    ∙ ap (filter_map label_tree) (map-append label_of (take i ls) (get_or ls i d ∷ []))
+    ∙ filter_map-append label_tree (map label_of (take i ls)) (label_of (get_or ls i d) ∷ [])

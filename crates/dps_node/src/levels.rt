@@ -27,7 +27,7 @@ pub(crate) fn new_levels(
 }
 
 /// The least level of the variables in whose trees this one stands.
-#[tactic(auto, using(crate::proofs::Lowest::pair_counts, crate::proofs::Lowest::pair_passes, crate::proofs::Lowest::folded_least))]
+#[tactic(auto, using(crate::proofs::Lowest::pair_counts, crate::proofs::Lowest::pair_passes, crate::proofs::Lowest::all_folded))]
 fn least_level(
     alloc: Global,
     variables: &[(u64, u32)],

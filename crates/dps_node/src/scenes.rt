@@ -45,6 +45,7 @@ fn copies_of_trees(alloc: Global, trees: &[Term]) -> Result<Vec<Term>, NoMemory>
 }
 
 /// The trees of the input labels.
+#[tactic(auto, using(crate::proofs::Numbered::label_trees_more))]
 fn label_trees(alloc: Global, labels: &[Label]) -> Result<Vec<Term>, NoMemory>
     ensures { IfOk result (λ v. v.items ≡ filter_map label_tree (map label_of labels.now)) }
 {

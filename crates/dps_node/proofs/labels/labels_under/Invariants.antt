@@ -5,4 +5,4 @@ use Rattle.dps_node.specs.Node.{label_under}
 use Rattle.dps_node.proofs.labels.labels_under.Given as goal
 
 abbrev pub invariant-loop-label : goal.invariant-loop-label
-invariant-loop-label g l = map label_of l.made.items ≡ map (label_under (replace (g.R.becomes l.by))) (map label_of (take l.label-index l.labels))
+invariant-loop-label g l = map label_of l.made.items ≡ map (label_under (replace (g.R.Replacement.becomes l.by))) (map label_of (take l.label-index l.labels))
