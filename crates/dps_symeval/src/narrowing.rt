@@ -1,0 +1,158 @@
+//! What the rules of a destructor make of results: one step of narrowing.
+ghost use Rattle.std.specs.Prelude.{◌≡◌, ◌≤◌, ◌∷◌, ◌++◌, [], ◌+◌, ◌^◌, ◌<◌, length, map, drop, take, IfOk, OnOk, MatchOption, IsTrue, MatchBool};
+ghost use Rattle.std.specs.List.{zip, flat_map};
+ghost use Rattle.dps_unify.specs.Renaming.{raised};
+ghost use Rattle.dps_unify.specs.Unifier.{IsNotUnifiable};
+ghost use Rattle.dps_terms.specs.Views.{arguments};
+ghost use Rattle.dps_theory.specs.Theory.{HasRule, IsAccepted};
+ghost use Rattle.dps_theory.specs.Overlaps.{room, least_above};
+ghost use Rattle.dps_theory.specs.Index.{places};
+ghost use Rattle.dps_symeval.specs.Cases.{IsUnifiable, reduced_by};
+ghost use Rattle.dps_symeval.specs.Agenda.{AreOpen, AddsOpen, reduced_last, narrowed_last};
+
+use crate::choices::Choices;
+use dps_terms::{NoMemory, Sym, Term};
+use dps_theory::{Rule, Theory};
+use dps_unify::{VarOrder, mgu, rename};
+use std::alloc::{AllocError, Global};
+
+/// What the rules of the destructor make of each of the choices, over the last results, of which it takes so many, or all
+/// where there are fewer. Where nothing makes the equations true, nothing comes.
+pub(crate) fn narrowed(
+    alloc: Global,
+    theory: &Theory,
+    sym: Sym,
+    arity: u32,
+    choices: &[Choices],
+) -> Result<Vec<Choices>, NoMemory>
+    ensures { IfOk result (λ v. AreOpen (flat_map (narrowed_last theory.now sym arity) choices.now) v.items) }
+{
+    let mut found = Vec::new(alloc);
+    for choice in choices {
+        narrow(alloc, theory, sym, arity, choice, &mut found)?;
+    }
+    Ok(found)
+}
+
+/// Adds what the rules of the destructor make of the choice.
+fn narrow(
+    alloc: Global,
+    theory: &Theory,
+    sym: Sym,
+    arity: u32,
+    choice: &Choices,
+    found: &mut Vec<Choices>,
+) -> Result<(), NoMemory>
+    ensures { OnOk result (AddsOpen (narrowed_last theory.now sym arity choice.now) found.old.items found.new.items) }
+{
+    let rules = theory.rules();
+    for place in theory.of(sym) {
+        if let Some(reduced) = reduced(alloc, &rules[*place as usize], arity, choice)? {
+            found.push(reduced)?;
+        }
+    }
+    Ok(())
+}
+
+/// What the rule makes of the choice, over the last results. `None` comes exactly where nothing makes the equations true.
+fn reduced(
+    alloc: Global,
+    rule: &Rule,
+    arity: u32,
+    choice: &Choices,
+) -> Result<Option<Choices>, NoMemory>
+{
+    let front = choice.results.len().saturating_sub(arity as usize);
+    let (others, arguments) = choice.results.as_slice().split_at(front);
+    let next = next_after(alloc, rule, choice.next)?;
+    let left = rename(alloc, &rule.left, choice.next)?;
+    let equations = with_fits(alloc, &choice.equations, arguments, &left)?;
+    if !are_unifiable(alloc, &equations)? {
+        return Ok(None);
+    }
+    let right = rename(alloc, &rule.right, choice.next)?;
+    let results = with_result(alloc, others, right)?;
+    Ok(Some(Choices {
+        equations,
+        results,
+        next,
+    }))
+}
+
+/// The first number after those of the rule's variables, where they are raised by `next`.
+fn next_after(alloc: Global, rule: &Rule, next: u64) -> Result<u64, NoMemory>
+    ensures { IfOk result (λ n. n ≡ next + room rule.now) }
+{
+    let mut after = next;
+    for variable in &rule.left.vars(alloc)? {
+        let Some(raised) = variable.checked_add(next) else {
+            return Err(AllocError);
+        };
+        let Some(above) = raised.checked_add(1) else {
+            return Err(AllocError);
+        };
+        after = after.max(above);
+    }
+    Ok(after)
+}
+
+/// The equations, and those that make the arguments fit those of the left side.
+fn with_fits(
+    alloc: Global,
+    equations: &[(Term, Term)],
+    arguments: &[Term],
+    left: &Term,
+) -> Result<Vec<(Term, Term)>, NoMemory>
+    ensures { IfOk result (λ v. v.items ≡ equations.now ++ zip arguments.now (arguments left.now)) }
+{
+    let mut all = copies_of_pairs(alloc, equations)?;
+    let left = left.whole();
+    for (index, argument) in arguments.iter().enumerate() {
+        if index < left.arity() as usize {
+            let argument = argument.copy(alloc)?;
+            let pattern = left.argument(index as u32).copy(alloc)?;
+            all.push((argument, pattern))?;
+        }
+    }
+    Ok(all)
+}
+
+/// Copies of the results, and one more.
+fn with_result(alloc: Global, results: &[Term], last: Term) -> Result<Vec<Term>, NoMemory>
+    ensures { IfOk result (λ v. v.items ≡ results.now ++ last ∷ []) }
+{
+    let mut all = Vec::with_capacity(alloc, results.len() + 1)?;
+    for result in results {
+        let copy = result.copy(alloc)?;
+        all.push(copy)?;
+    }
+    all.push(last)?;
+    Ok(all)
+}
+
+/// Copies of the equations.
+fn copies_of_pairs(alloc: Global, pairs: &[(Term, Term)]) -> Result<Vec<(Term, Term)>, NoMemory>
+    ensures { IfOk result (λ v. v.items ≡ pairs.now) }
+{
+    let mut copies = Vec::with_capacity(alloc, pairs.len())?;
+    for (left, right) in pairs {
+        let left = left.copy(alloc)?;
+        let right = right.copy(alloc)?;
+        copies.push((left, right))?;
+    }
+    Ok(copies)
+}
+
+/// Whether some substitution makes the equations true.
+pub(crate) fn are_unifiable(
+    alloc: Global,
+    equations: &[(Term, Term)],
+) -> Result<bool, NoMemory>
+    ensures { IfOk result (λ b. MatchBool b (IsUnifiable equations.now) (IsNotUnifiable equations.now)) }
+{
+    let order = VarOrder {
+        levels: Vec::new(alloc),
+    };
+    let unifier = mgu(alloc, &order, equations)?;
+    Ok(unifier.is_some())
+}
