@@ -1,9 +1,10 @@
 //! The choices of rules for terms, by a list of what is still to be done.
-ghost use Rattle.std.specs.Prelude.{◌≡◌, ◌<◌, ◌+◌, ◌∷◌, [], ◌++◌, reverse, map, IfOk, OnOk, All, IsTrue};
+ghost use Rattle.std.specs.Prelude.{◌≡◌, ◌<◌, ◌≤◌, ◌+◌, ◌*◌, ◌∷◌, [], reverse, map, IfOk, OnOk, All, MatchBool};
 ghost use Rattle.std.specs.List.{flat_map};
+ghost use Rattle.dps_terms.specs.Tree.{node_count};
 ghost use Rattle.dps_terms.specs.Seen.{seen};
-ghost use Rattle.dps_symeval.specs.Cases.{Choices as Chosen, is_destructor};
-ghost use Rattle.dps_symeval.specs.Agenda.{AreOpen, IsOpen, all_done, done, weight, weights, GoesOn};
+ghost use Rattle.dps_symeval.specs.Cases.{is_destructor};
+ghost use Rattle.dps_symeval.specs.Agenda.{AreOpen, IsOpen, IsThinned, no_terms, all_done, weight, weights, GoesOn, IsBegun, with_result, root_applied, applied_last, constructed_last, IsFree, IsRootFree};
 
 use crate::choices::Choices;
 use crate::narrowing::narrowed;
@@ -17,8 +18,8 @@ use std::alloc::Global;
 pub(crate) enum Task<'a> {
     /// The term is evaluated.
     Evaluate(TermRef<'a>),
-    /// The symbol is put over so many of the last results.
-    Apply(Sym, u32),
+    /// The term's root is put over the last results, which are those of its arguments.
+    Apply(TermRef<'a>),
 }
 
 /// The choices of rules for the terms of the agenda, of which the last comes first, with new variables from a number on.
@@ -29,12 +30,21 @@ pub(crate) fn choices_of(
     mut agenda: Vec<Task<'_>>,
     first: u64,
 ) -> Result<Vec<Choices>, NoMemory>
+    ensures { IfOk result (λ v. AreOpen (all_done theory.now (reverse agenda.entry.items) (no_terms first ∷ [])) v.items) }
 {
-    let mut choices = Vec::with_capacity(alloc, 1)?;
-    choices.push(Choices::start(alloc, first))?;
+    let mut choices = start(alloc, first)?;
     while let Some(task) = agenda.pop() {
         advance(alloc, theory, task, &mut agenda, &mut choices)?;
     }
+    Ok(choices)
+}
+
+/// The one choice for no terms.
+fn start(alloc: Global, first: u64) -> Result<Vec<Choices>, NoMemory>
+    ensures { IfOk result (λ v. v.items ≡ no_terms first ∷ []) }
+{
+    let mut choices = Vec::with_capacity(alloc, 1)?;
+    choices.push(Choices::start(alloc, first))?;
     Ok(choices)
 }
 
@@ -46,10 +56,13 @@ fn advance<'a>(
     agenda: &mut Vec<Task<'a>>,
     choices: &mut Vec<Choices>,
 ) -> Result<(), NoMemory>
+    ensures on { OnOk result (GoesOn theory.now (task.entry ∷ reverse agenda.old.items) choices.old.items (reverse agenda.new.items) choices.new.items) }
+    ensures unifiable { All IsOpen choices.old.items → OnOk result (All IsOpen choices.new.items) }
+    ensures smaller { OnOk result (weights (reverse agenda.new.items) < weight task.entry + weights (reverse agenda.old.items)) }
 {
     match task {
         Task::Evaluate(term) => evaluate(alloc, theory, term, agenda, choices),
-        Task::Apply(sym, arity) => apply(alloc, theory, sym, arity, choices),
+        Task::Apply(term) => apply(alloc, theory, term, choices),
     }
 }
 
@@ -61,27 +74,22 @@ fn evaluate<'a>(
     agenda: &mut Vec<Task<'a>>,
     choices: &mut Vec<Choices>,
 ) -> Result<(), NoMemory>
+    ensures on { OnOk result (GoesOn theory.now (Task.Evaluate term.entry ∷ reverse agenda.old.items) choices.old.items (reverse agenda.new.items) choices.new.items) }
+    ensures unifiable { All IsOpen choices.old.items → OnOk result (All IsOpen choices.new.items) }
+    ensures smaller { OnOk result (weights (reverse agenda.new.items) < 2 * node_count (seen term.entry) + weights (reverse agenda.old.items)) }
 {
-    match term.view() {
-        TermView::App(sym) => {
-            if holds_destructor(theory, term) {
-                return begin(term, sym, agenda);
-            }
-            add_all(alloc, term, choices)
-        }
-        _ => add_all(alloc, term, choices),
+    if holds_destructor(theory, term) {
+        return begin(term, agenda);
     }
+    add_all(alloc, term, choices)
 }
 
 /// Puts the term's arguments on the agenda, the first of them first, and then its root.
-fn begin<'a>(
-    term: TermRef<'a>,
-    sym: Sym,
-    agenda: &mut Vec<Task<'a>>,
-) -> Result<(), NoMemory>
+fn begin<'a>(term: TermRef<'a>, agenda: &mut Vec<Task<'a>>) -> Result<(), NoMemory>
+    ensures { OnOk result (IsBegun (seen term.entry) 0 agenda.old.items agenda.new.items) }
 {
+    agenda.push(Task::Apply(term))?;
     let mut left = term.arity();
-    agenda.push(Task::Apply(sym, left))?;
     while left > 0 {
         left -= 1;
         agenda.push(Task::Evaluate(term.argument(left)))?;
@@ -90,35 +98,61 @@ fn begin<'a>(
 }
 
 /// Adds a term that evaluates to itself to each of the choices.
-fn add_all(alloc: Global, term: TermRef<'_>, choices: &mut [Choices]) -> Result<(), NoMemory> {
+fn add_all(alloc: Global, term: TermRef<'_>, choices: &mut [Choices]) -> Result<(), NoMemory>
+    ensures { OnOk result (choices.new ≡ map (λ c. with_result c (seen term.entry)) choices.old) }
+{
     for choice in choices.iter_mut() {
         choice.add(alloc, term)?;
     }
     Ok(())
 }
 
-/// Puts the symbol over the last results, of which it takes so many.
+/// Puts the term's root over the last results.
 fn apply(
+    alloc: Global,
+    theory: &Theory,
+    term: TermRef<'_>,
+    choices: &mut Vec<Choices>,
+) -> Result<(), NoMemory>
+    ensures on { OnOk result (IsThinned (flat_map (root_applied theory.now (seen term.entry)) choices.old.items) choices.new.items) }
+    ensures unifiable { All IsOpen choices.old.items → OnOk result (All IsOpen choices.new.items) }
+{
+    match term.view() {
+        TermView::App(sym) => apply_symbol(alloc, theory, sym, term.arity(), choices),
+        _ => Ok(()),
+    }
+}
+
+/// Puts the symbol over the last results, of which it takes so many.
+fn apply_symbol(
     alloc: Global,
     theory: &Theory,
     sym: Sym,
     arity: u32,
     choices: &mut Vec<Choices>,
 ) -> Result<(), NoMemory>
+    requires { arity ≤ 8 }
+    ensures on { OnOk result (IsThinned (flat_map (applied_last theory.now sym arity) choices.old.items) choices.new.items) }
+    ensures unifiable { All IsOpen choices.old.items → OnOk result (All IsOpen choices.new.items) }
 {
     if is_destructor(theory, sym) {
-        *choices = narrowed(alloc, theory, sym, arity, choices.as_slice())?;
+        let found = narrowed(alloc, theory, sym, arity, choices.as_slice())?;
+        *choices = found;
         return Ok(());
     }
     construct_all(alloc, sym, arity, choices)
 }
 
+/// Puts the constructor over the last results of each of the choices.
 fn construct_all(
     alloc: Global,
     sym: Sym,
     arity: u32,
     choices: &mut [Choices],
-) -> Result<(), NoMemory> {
+) -> Result<(), NoMemory>
+    requires { arity ≤ 8 }
+    ensures { OnOk result (choices.new ≡ map (constructed_last sym arity) choices.old) }
+{
     for choice in choices.iter_mut() {
         choice.construct(alloc, sym, arity)?;
     }
@@ -126,7 +160,9 @@ fn construct_all(
 }
 
 /// Whether a destructor stands in the term.
-fn holds_destructor(theory: &Theory, term: TermRef<'_>) -> bool {
+fn holds_destructor(theory: &Theory, term: TermRef<'_>) -> bool
+    ensures { MatchBool result (¬ IsFree theory.now (seen term.entry)) (IsFree theory.now (seen term.entry)) }
+{
     for node in 0..term.node_count() {
         if has_destructor_root(theory, term.subterm(node)) {
             return true;
@@ -135,7 +171,10 @@ fn holds_destructor(theory: &Theory, term: TermRef<'_>) -> bool {
     false
 }
 
-fn has_destructor_root(theory: &Theory, term: TermRef<'_>) -> bool {
+/// Whether a destructor stands at the root.
+fn has_destructor_root(theory: &Theory, term: TermRef<'_>) -> bool
+    ensures { MatchBool result (¬ IsRootFree theory.now (seen term.entry)) (IsRootFree theory.now (seen term.entry)) }
+{
     match term.view() {
         TermView::App(sym) => is_destructor(theory, sym),
         _ => false,
@@ -147,7 +186,7 @@ fn is_destructor(theory: &Theory, sym: Sym) -> bool
     ensures { result ≡ is_destructor theory.now sym }
 {
     match theory.kind(sym) {
-        Some(kind) => kind == SymKind::Destructor,
-        None => false,
+        Some(SymKind::Destructor) => true,
+        _ => false,
     }
 }

@@ -1,7 +1,7 @@
 //! Rules chosen for the destructors of some terms, and what the terms evaluate to by them.
 ghost use Rattle.std.specs.Prelude.{◌≡◌, ◌≤◌, ◌∷◌, [], ◌++◌, IfOk, OnOk};
 ghost use Rattle.dps_terms.specs.Seen.{seen};
-ghost use Rattle.dps_symeval.specs.Agenda.{with_result, constructed_last};
+ghost use Rattle.dps_symeval.specs.Agenda.{no_terms, with_result, constructed_last};
 
 use dps_terms::{NoMemory, Sym, Term, TermRef};
 use std::alloc::Global;
@@ -30,7 +30,7 @@ impl Model for Choices {
 impl Choices {
     /// No terms.
     pub(crate) fn start(alloc: Global, next: u64) -> Choices
-        ensures { result ≡ record { equations = []; results = []; next = next } }
+        ensures { result ≡ no_terms next }
     {
         Choices {
             equations: Vec::new(alloc),

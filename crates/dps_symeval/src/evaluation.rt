@@ -1,8 +1,8 @@
 //! The cases of terms.
-ghost use Rattle.std.specs.Prelude.{◌≡◌, map, All, length, IfOk};
+ghost use Rattle.std.specs.Prelude.{◌≡◌, map, All, length, IfOk, OnOk};
 ghost use Rattle.dps_terms.specs.Tree.{Tree};
 ghost use Rattle.dps_symeval.specs.Cases.{cases as cases_of, equal_cases as equal_cases_of, ArePossible, as_case};
-ghost use Rattle.dps_symeval.specs.Agenda.{as_equal_case};
+ghost use Rattle.dps_symeval.specs.Agenda.{as_equal_case, AddsPossible};
 
 use crate::Case;
 use crate::agenda::{Task, choices_of};
@@ -56,12 +56,13 @@ pub fn equal_cases(
 }
 
 /// The cases of choices for one term.
-fn as_cases(alloc: Global, choices: Vec<Choices>) -> Result<Vec<Case>, NoMemory>
+fn as_cases(alloc: Global, mut choices: Vec<Choices>) -> Result<Vec<Case>, NoMemory>
     requires { All (λ c. length c.results ≡ 1) choices.items }
     ensures { IfOk result (λ v. (t : Tree) → v.items ≡ map (as_case t) choices.items) }
 {
+    choices.as_mut_slice().reverse();
     let mut cases = Vec::with_capacity(alloc, choices.len())?;
-    for choice in choices {
+    while let Some(choice) = choices.pop() {
         cases.push(as_case(choice))?;
     }
     Ok(cases)
@@ -84,18 +85,32 @@ fn as_case(choices: Choices) -> Case
 }
 
 /// The joined cases of choices for two terms, but those whose equations nothing makes true.
-fn as_equal_cases(alloc: Global, choices: Vec<Choices>) -> Result<Vec<Case>, NoMemory>
+fn as_equal_cases(alloc: Global, mut choices: Vec<Choices>) -> Result<Vec<Case>, NoMemory>
     requires { All (λ c. length c.results ≡ 2) choices.items }
     ensures { IfOk result (λ v. (t u : Tree) → ArePossible (map (as_equal_case t u) choices.items) v.items) }
 {
+    choices.as_mut_slice().reverse();
     let mut cases = Vec::with_capacity(alloc, choices.len())?;
-    for choice in choices {
-        let case = as_equal_case(alloc, choice)?;
-        if are_unifiable(alloc, &case.equations)? {
-            cases.push(case)?;
-        }
+    while let Some(choice) = choices.pop() {
+        add_equal_case(alloc, choice, &mut cases)?;
     }
     Ok(cases)
+}
+
+/// Adds the joined case of the choices, unless nothing makes its equations true.
+fn add_equal_case(
+    alloc: Global,
+    choices: Choices,
+    cases: &mut Vec<Case>,
+) -> Result<(), NoMemory>
+    requires { length choices.results ≡ 2 }
+    ensures { OnOk result ((t u : Tree) → AddsPossible (as_equal_case t u choices) cases.old.items cases.new.items) }
+{
+    let case = as_equal_case(alloc, choices)?;
+    if are_unifiable(alloc, &case.equations)? {
+        cases.push(case)?;
+    }
+    Ok(())
 }
 
 /// The joined case of choices for two terms.

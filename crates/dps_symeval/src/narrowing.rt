@@ -4,11 +4,11 @@ ghost use Rattle.std.specs.List.{zip, flat_map};
 ghost use Rattle.dps_unify.specs.Renaming.{raised};
 ghost use Rattle.dps_unify.specs.Unifier.{IsNotUnifiable};
 ghost use Rattle.dps_terms.specs.Views.{arguments};
-ghost use Rattle.dps_theory.specs.Theory.{HasRule, IsAccepted};
-ghost use Rattle.dps_theory.specs.Overlaps.{room, least_above};
+ghost use Rattle.dps_theory.specs.Theory.{IsBounded};
+ghost use Rattle.dps_theory.specs.Overlaps.{room};
 ghost use Rattle.dps_theory.specs.Index.{places};
 ghost use Rattle.dps_symeval.specs.Cases.{IsUnifiable, reduced_by};
-ghost use Rattle.dps_symeval.specs.Agenda.{AreOpen, AddsOpen, reduced_last, narrowed_last};
+ghost use Rattle.dps_symeval.specs.Agenda.{IsOpen, AreOpen, AddsOpen, reduced_last, narrowed_last};
 
 use crate::choices::Choices;
 use dps_terms::{NoMemory, Sym, Term};
@@ -61,6 +61,9 @@ fn reduced(
     arity: u32,
     choice: &Choices,
 ) -> Result<Option<Choices>, NoMemory>
+    requires { IsBounded rule.now }
+    ensures { IfOk result (λ o. MatchOption o (IsNotUnifiable (reduced_last arity choice.now rule.now).equations)
+        (λ d. (d ≡ reduced_last arity choice.now rule.now) × IsOpen d)) }
 {
     let front = choice.results.len().saturating_sub(arity as usize);
     let (others, arguments) = choice.results.as_slice().split_at(front);
@@ -84,7 +87,8 @@ fn next_after(alloc: Global, rule: &Rule, next: u64) -> Result<u64, NoMemory>
     ensures { IfOk result (λ n. n ≡ next + room rule.now) }
 {
     let mut after = next;
-    for variable in &rule.left.vars(alloc)? {
+    let variables = rule.left.vars(alloc)?;
+    for variable in &variables {
         let Some(raised) = variable.checked_add(next) else {
             return Err(AllocError);
         };

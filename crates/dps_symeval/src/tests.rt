@@ -131,7 +131,8 @@ fn counts_of_cases(rt: HostRuntime) {
         ("nd", (0, 0)),
         ("nda", (0, 0)),
         ("xdd", (4, 8)),
-        ("xdxde", (2, 8)),
+        ("xdxde", (0, 0)),
+        ("xdyde", (4, 16)),
         ("nxe", (1, 2)),
         ("xxe", (0, 0)),
         // sixteen nested destructors, where one rule fits each
@@ -144,7 +145,8 @@ fn counts_of_cases(rt: HostRuntime) {
     let equal_table = [
         ("x", "y", (1, 1)),
         ("xa", "yb", (0, 0)),
-        ("xd", "xa", (1, 2)),
+        ("xd", "xa", (0, 0)),
+        ("xd", "ya", (2, 4)),
         ("xd", "yd", (4, 12)),
         ("nd", "x", (0, 0)),
     ];

@@ -1,0 +1,110 @@
+-- What the rules of a destructor make of choices, rule by rule.
+use Rattle.std.proofs.Common.{◌≡◌, ℕ, zero, suc, ◌+◌, ◌<◌, ◌≤◌, ◌^◌, List, [], ◌∷◌, ◌++◌, length, map, take, drop, get_or, slice_get, Some, filter, refl, sym, ◌∙◌, ap, subst, arith, append_assoc, length-append, Bool, true, false, cond}
+use Rattle.std.specs.Prelude.{All, Contains, max}
+use Rattle.std.specs.List.{flat_map, filter_map, cons_option, zip}
+use Rattle.std.proofs.Math.Seq.{take-suc}
+use Rattle.std.proofs.lemmas.List.{append-nil, map-append}
+use Rattle.std.proofs.lemmas.List.Elements.{All-nil, All-cons, All-append, filter_map-append}
+use Rattle.dps_terms.specs.Tree.{Tree, StandsIn, var}
+use Rattle.dps_unify.specs.Unifier.{IsNotUnifiable}
+use Rattle.dps_unify.specs.Renaming.{HasRoom}
+use Rattle.dps_theory.specs.Theory.{Rule, Theory, IsBounded}
+use Rattle.dps_theory.specs.Overlaps.{room, least_above}
+use Rattle.dps_theory.specs.Index.{has_root, places_from, places}
+use Rattle.dps_symeval.specs.Cases.{Choices, rules_of}
+use Rattle.dps_symeval.specs.Agenda.{IsThinned, none_left, stays, goes, IsOpen, AreOpen, AddsOpen, at_places, reduced_last, narrowed_last}
+use Rattle.dps_symeval.proofs.Complete.{left_below, right_below}
+use Rattle.dps_symeval.proofs.Thinning.{beside}
+use Rattle.dps_symeval.proofs.Mapping.{joined_append}
+
+pub none_open : AreOpen [] []
+none_open = record { thinned = none_left; unifiable = All-nil IsOpen }
+
+pub adds_nothing : (old : List Choices) → AddsOpen [] old old
+adds_nothing old = record { added = []; are_open = none_open; behind = sym (append-nil old) }
+
+open_beside : (all kept more added : List Choices) → AreOpen all kept → AreOpen more added → AreOpen (all ++ more) (kept ++ added)
+open_beside all kept more added h k = record { thinned = beside h.thinned k.thinned; unifiable = All-append IsOpen kept added h.unifiable k.unifiable }
+
+adds_one : (all old new after : List Choices) (d : Choices) → AddsOpen all old new → IsOpen d → after ≡ new ++ d ∷ [] → AddsOpen (all ++ d ∷ []) old after
+adds_one all old new after d h u e = record {
+  added = h.added ++ d ∷ [];
+  are_open = open_beside all h.added (d ∷ []) (d ∷ []) h.are_open (record { thinned = stays none_left; unifiable = All-cons IsOpen d [] u (All-nil IsOpen) });
+  behind = e ∙ (ap (λ cs. cs ++ d ∷ []) h.behind ∙ append_assoc old h.added (d ∷ []));
+}
+
+adds_none : (all old new : List Choices) (d : Choices) → AddsOpen all old new → IsNotUnifiable d.equations → AddsOpen (all ++ d ∷ []) old new
+adds_none all old new d h n = record {
+  added = h.added;
+  are_open = subst (AreOpen (all ++ d ∷ [])) (append-nil h.added) (open_beside all h.added (d ∷ []) [] h.are_open (record { thinned = goes n none_left; unifiable = All-nil IsOpen }));
+  behind = h.behind;
+}
+
+-- choices one by one
+pub adds_more : (f : Choices → List Choices) (cs : List Choices) (i : ℕ) (d : Choices) (old new : List Choices) → i < length cs → AreOpen (flat_map f (take i cs)) old → AddsOpen (f (get_or cs i d)) old new → AreOpen (flat_map f (take (suc i) cs)) new
+adds_more f cs i d old new l h k =
+    subst (λ xs. AreOpen (flat_map f xs) new) (sym (take-suc cs i d l))
+    (subst (λ xs. AreOpen xs new) (sym (joined_append f (take i cs) (get_or cs i d ∷ []) ∙ ap (λ xs. flat_map f (take i cs) ++ xs) (append-nil (f (get_or cs i d)))))
+    (subst (AreOpen (flat_map f (take i cs) ++ f (get_or cs i d))) (sym k.behind) (open_beside (flat_map f (take i cs)) old (f (get_or cs i d)) k.added h k.are_open)))
+
+-- the rules at the places of a root
+module _ (g : ℕ) where
+  one_within : (b : Bool) (m : ℕ) (ps : List ℕ) (n : ℕ) → m < n → All (λ p. p < n) ps → All (λ p. p < n) (cond b (m ∷ ps) ps)
+  one_within true m ps n l h = All-cons (λ p. p < n) m ps l h
+  one_within false m ps n l h = h
+
+  pub places_within : (rules : List Rule) (m n : ℕ) → m + length rules ≤ n → All (λ p. p < n) (places_from m rules g)
+  places_within [] m n l = All-nil (λ p. p < n)
+  places_within (r ∷ rules) m n l =
+      one_within (has_root g r.left) m (places_from (suc m) rules g) n (omega arith) (places_within rules (suc m) n (omega arith))
+
+  at_seam : (before : List Rule) (r : Rule) (rules : List Rule) → slice_get (before ++ (r ∷ rules)) (length before) ≡ Some r
+  at_seam [] r rules = refl
+  at_seam (q ∷ before) r rules = at_seam before r rules
+
+  one_at : (all : List Rule) (b : Bool) (m : ℕ) (r : Rule) (ps : List ℕ) (rs : List Rule) → slice_get all m ≡ Some r → at_places all ps ≡ rs → at_places all (cond b (m ∷ ps) ps) ≡ cond b (r ∷ rs) rs
+  one_at all true m r ps rs e h = ap (λ o. cons_option o (at_places all ps)) e ∙ ap (λ xs. r ∷ xs) h
+  one_at all false m r ps rs e h = h
+
+  at_from : (before rules : List Rule) (m : ℕ) → m ≡ length before → at_places (before ++ rules) (places_from m rules g) ≡ filter (λ (r : Rule). has_root g r.left) rules
+  at_from before [] m e = refl
+  at_from before (r ∷ rules) m e =
+      let there : slice_get (before ++ (r ∷ rules)) m ≡ Some r = subst (λ k. slice_get (before ++ (r ∷ rules)) k ≡ Some r) (sym e) (at_seam before r rules) in
+      let longer : suc m ≡ length (before ++ r ∷ []) = omega (arith, e, length-append before (r ∷ [])) in
+      let later : at_places (before ++ (r ∷ rules)) (places_from (suc m) rules g) ≡ filter (λ (r : Rule). has_root g r.left) rules =
+      subst (λ xs. at_places xs (places_from (suc m) rules g) ≡ filter (λ (r : Rule). has_root g r.left) rules) (append_assoc before (r ∷ []) rules) (at_from (before ++ r ∷ []) rules (suc m) longer) in
+      one_at (before ++ (r ∷ rules)) (has_root g r.left) m r (places_from (suc m) rules g) (filter (λ (r : Rule). has_root g r.left) rules) there later
+
+  pub at_all_places : (rules : List Rule) → at_places rules (places rules g) ≡ filter (λ (r : Rule). has_root g r.left) rules
+  at_all_places rules = at_from [] rules 0 refl
+
+  pub place_within : (rules : List Rule) (ps : List ℕ) (i : ℕ) → ps ≡ places rules g → i < length ps → get_or ps i 0 < length rules
+  place_within rules ps i e l =
+      let n : 0 + length rules ≤ length rules = omega arith in
+      subst (λ xs. i < length xs → get_or xs i 0 < length rules) (sym e) (λ k. (places_within rules 0 (length rules) n) i 0 k) l
+
+at_more : (rules : List Rule) (ps : List ℕ) (i : ℕ) (r : Rule) → i < length ps → slice_get rules (get_or ps i 0) ≡ Some r → at_places rules (take (suc i) ps) ≡ at_places rules (take i ps) ++ r ∷ []
+at_more rules ps i r l e =
+    ap (at_places rules) (take-suc ps i 0 l)
+    ∙ (filter_map-append (slice_get rules) (take i ps) (get_or ps i 0 ∷ [])
+    ∙ ap (λ o. at_places rules (take i ps) ++ cons_option o []) e)
+
+module _ (n : ℕ) (c : Choices) (rules : List Rule) (ps : List ℕ) (i : ℕ) (r : Rule) (l : i < length ps) (e : slice_get rules (get_or ps i 0) ≡ Some r) where
+  made : map (reduced_last n c) (at_places rules (take (suc i) ps)) ≡ map (reduced_last n c) (at_places rules (take i ps)) ++ reduced_last n c r ∷ []
+  made = ap (map (reduced_last n c)) (at_more rules ps i r l e) ∙ map-append (reduced_last n c) (at_places rules (take i ps)) (r ∷ [])
+
+  pub reduces_one : (old new after : List Choices) (d : Choices) → d ≡ reduced_last n c r → IsOpen d → after ≡ new ++ d ∷ [] → AddsOpen (map (reduced_last n c) (at_places rules (take i ps))) old new → AddsOpen (map (reduced_last n c) (at_places rules (take (suc i) ps))) old after
+  reduces_one old new after d same u a h =
+      subst (λ xs. AddsOpen xs old after) (sym made)
+      (subst (λ (x : Choices). AddsOpen (map (reduced_last n c) (at_places rules (take i ps)) ++ x ∷ []) old after) same
+      (adds_one (map (reduced_last n c) (at_places rules (take i ps))) old new after d h u a))
+
+  pub reduces_none : (old new : List Choices) → IsNotUnifiable (reduced_last n c r).equations → AddsOpen (map (reduced_last n c) (at_places rules (take i ps))) old new → AddsOpen (map (reduced_last n c) (at_places rules (take (suc i) ps))) old new
+  reduces_none old new u h = subst (λ xs. AddsOpen xs old new) (sym made) (adds_none (map (reduced_last n c) (at_places rules (take i ps))) old new (reduced_last n c r) h u)
+
+-- room for the numbers of a rule
+pub left_room : (r : Rule) (next after : ℕ) → after ≡ next + room r → after < 2 ^ 64 → HasRoom r.left next
+left_room r next after e l = λ n k. omega (arith, left_below r n k, e, l)
+
+pub right_room : (r : Rule) (next after : ℕ) → IsBounded r → after ≡ next + room r → after < 2 ^ 64 → HasRoom r.right next
+right_room r next after b e l = λ n k. omega (arith, right_below r b n k, e, l)
