@@ -1,23 +1,26 @@
 -- What becomes of an agenda.
-use Rattle.std.proofs.Common.{◌≡◌, ℕ, zero, suc, ◌+◌, ◌*◌, ◌<◌, ◌≤◌, List, [], ◌∷◌, ◌++◌, length, map, take, drop, reverse, slice_get, Some, refl, sym, ◌∙◌, ap, subst, arith, append_assoc}
+use Rattle.std.proofs.Common.{◌≡◌, ℕ, zero, suc, ◌+◌, ◌*◌, ◌<◌, ◌≤◌, List, [], ◌∷◌, ◌++◌, length, map, take, drop, reverse, slice_get, Some, refl, sym, ◌∙◌, ap, subst, arith, append_assoc, Bool, true, false}
 use Rattle.std.specs.Prelude.{All, Option}
 use Rattle.std.specs.List.{flat_map}
 use Rattle.std.proofs.lemmas.List.{reverse-append}
 use Rattle.std.proofs.lemmas.List.Elements.{All-nil, All-cons}
-use Rattle.dps_terms.specs.Tree.{Tree, Trees, leaf, var, app, none, more, trees, list_of, node_count, node_counts}
+use Rattle.dps_terms.specs.Tree.{Tree, Trees, leaf, public, private, var, ax, entry, rigid, app, none, more, trees, list_of, node_count, node_counts}
 use Rattle.dps_terms.specs.Replace.{substitute}
-use Rattle.dps_terms.specs.Views.{arguments}
+use Rattle.dps_terms.specs.declared.Sym.{Sym}
+use Rattle.dps_terms.specs.declared.TermView.{TermView}
+use Rattle.dps_terms.specs.declared.TermView.TheVariants.{App}
+use Rattle.dps_terms.specs.Views.{view_of, arguments}
 use Rattle.dps_terms.specs.Seen.{seen}
 use Rattle.dps_terms.specs.declared.borrowed.TermRef.{TermRef}
 use Rattle.dps_theory.specs.Theory.{Theory}
-use Rattle.dps_symeval.specs.Cases.{Choices, choices}
+use Rattle.dps_symeval.specs.Cases.{Choices, choices, is_destructor}
 use Rattle.dps_symeval.specs.Cases as Cases
 use Rattle.dps_symeval.specs.declared.agenda.Task.{Task}
 use Rattle.dps_symeval.specs.declared.agenda.Task.TheVariants.{Evaluate, Apply}
-use Rattle.dps_symeval.specs.Agenda.{no_terms, with_result, root_applied, done, all_done, weight, weights, IsThinned, IsOpen, AreOpen, GoesOn, IsFree, AreEvaluations, IsBegun}
-use Rattle.dps_symeval.proofs.Mapping.{all_mapped_within}
+use Rattle.dps_symeval.specs.Agenda.{no_terms, with_result, root_applied, applied_last, constructed_last, narrowed_last, done, all_done, weight, weights, IsThinned, IsOpen, AreOpen, GoesOn, IsFree, AreEvaluations, IsBegun}
+use Rattle.dps_symeval.proofs.Mapping.{joined_same, all_mapped_within}
 use Rattle.dps_symeval.proofs.Thinning.{unchanged, in_turn, all_done_thinned}
-use Rattle.dps_symeval.proofs.Tasks.{with_all, free_done, evaluate_root, evaluations_done, trees_again}
+use Rattle.dps_symeval.proofs.Tasks.{with_all, free_done, construct_done, narrow_done, evaluate_root, evaluations_done, trees_again}
 
 pub task_in_front : (items popped : List Task) (task : Task) → items ≡ popped ++ task ∷ [] → reverse items ≡ task ∷ reverse popped
 task_in_front items popped task e = ap reverse e ∙ reverse-append popped (task ∷ [])
@@ -111,3 +114,34 @@ begun_more t left k old new after r s e n b = record {
       (refl, subst (λ j. AreEvaluations b.tasks (drop j (arguments t))) (sym s) b.evaluations);
   agenda = (ap reverse n ∙ reverse-append new (Evaluate r ∷ [])) ∙ ap (λ ts. Evaluate r ∷ ts) b.agenda;
 }
+
+pub no_task : (ts : List Task) → length ts ≡ 0 → ts ≡ []
+no_task [] e = refl
+no_task (t ∷ ts) e = absurd (omega (arith, e))
+
+module _ (theory : Theory) (cs : List Choices) where
+  -- the root over the last results
+  pub root_thinned : (t : Tree) (f : Sym) (n : ℕ) (ds : List Choices) → App f ≡ view_of t → n ≡ length (arguments t) → IsThinned (flat_map (applied_last theory f n) cs) ds → IsThinned (flat_map (root_applied theory t) cs) ds
+  root_thinned (app g ts) f n ds e k h =
+      let same : f ≡ g = cc in
+      subst (λ (s : Sym). IsThinned (flat_map (applied_last theory s (length (list_of ts))) cs) ds) same
+      (subst (λ m. IsThinned (flat_map (applied_last theory f m) cs) ds) k h)
+  root_thinned (leaf (public n)) f m ds e k h = absurd cc
+  root_thinned (leaf (private n)) f m ds e k h = absurd cc
+  root_thinned (leaf (var n)) f m ds e k h = absurd cc
+  root_thinned (leaf (ax n)) f m ds e k h = absurd cc
+  root_thinned (leaf (entry n)) f m ds e k h = absurd cc
+  root_thinned (leaf (rigid n)) f m ds e k h = absurd cc
+
+  pub leaf_thinned : (t : Tree) → ((f : Sym) → view_of t ≡ App f → ⊥) → IsThinned (flat_map (root_applied theory t) cs) cs
+  leaf_thinned (app g ts) h = absurd (h g refl)
+  leaf_thinned (leaf x) h = subst (λ ds. IsThinned ds cs) (sym (joined_same (root_applied theory (leaf x)) cs (λ c. refl))) (unchanged cs)
+
+  pub narrowed_thinned : (f : Sym) (n : ℕ) (b : Bool) (ds : List Choices) → b ≡ true → b ≡ is_destructor theory f → AreOpen (flat_map (narrowed_last theory f n) cs) ds → IsThinned (flat_map (applied_last theory f n) cs) ds
+  narrowed_thinned f n b ds e k h = subst (λ xs. IsThinned xs ds) (sym (narrow_done theory f n cs (sym k ∙ e))) h.thinned
+
+  pub constructed_thinned : (f : Sym) (n : ℕ) (b : Bool) (ds : List Choices) → b ≡ false → b ≡ is_destructor theory f → ds ≡ map (constructed_last f n) cs → IsThinned (flat_map (applied_last theory f n) cs) ds
+  constructed_thinned f n b ds e k h = subst (λ xs. IsThinned xs ds) (h ∙ sym (construct_done theory f n cs (sym k ∙ e))) (unchanged ds)
+
+  pub constructed_open : (f : Sym) (n : ℕ) (ds : List Choices) → ds ≡ map (constructed_last f n) cs → All IsOpen cs → All IsOpen ds
+  constructed_open f n ds e h = subst (All IsOpen) (sym e) (all_mapped_within IsOpen IsOpen (constructed_last f n) cs h (λ c k. k))

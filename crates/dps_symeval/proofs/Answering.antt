@@ -1,8 +1,8 @@
 -- From choices to cases.
-use Rattle.std.proofs.Common.{◌≡◌, ℕ, ◌+◌, List, [], ◌∷◌, ◌++◌, length, map, reverse, refl, sym, ◌∙◌, ap, subst, arith, append_assoc, length-append, inl, inr}
+use Rattle.std.proofs.Common.{◌≡◌, ℕ, ◌+◌, ◌-◌, ◌<◌, List, [], ◌∷◌, ◌++◌, length, map, reverse, refl, sym, ◌∙◌, ap, subst, arith, append_assoc, length-append, inl, inr}
 use Rattle.std.specs.Prelude.{All, ◌⊎◌}
 use Rattle.std.specs.List.{flat_map}
-use Rattle.std.proofs.lemmas.List.{append-nil, reverse-append}
+use Rattle.std.proofs.lemmas.List.{append-nil, reverse-append, length-reverse, get_or-reverse}
 use Rattle.std.proofs.lemmas.List.Elements.{All-nil, All-cons, All-head, All-tail}
 use Rattle.dps_terms.specs.Tree.{Tree}
 use Rattle.dps_unify.specs.Unifier.{IsNotUnifiable}
@@ -14,6 +14,7 @@ use Rattle.dps_symeval.specs.Cases as Cases
 use Rattle.dps_symeval.specs.declared.agenda.Task.{Task}
 use Rattle.dps_symeval.specs.declared.agenda.Task.TheVariants.{Evaluate, Apply}
 use Rattle.dps_symeval.specs.Agenda.{no_terms, done, all_done, IsThinned, none_left, stays, goes, IsOpen, AreOpen, as_equal_case, second_of, AddsPossible}
+use Rattle.dps_symeval.proofs.Listed.{all_left, all_right}
 use Rattle.dps_symeval.proofs.Mapping.{mapped_joined, mapped_in_turn, mapped_alike, joined_alike, joined_within, all_joined, all_mapped_within}
 use Rattle.dps_symeval.proofs.Thinning.{pruned_as, pruned_in_turn, possible_cases, shut_longer}
 use Rattle.dps_symeval.proofs.Tasks.{one_result_each}
@@ -54,9 +55,9 @@ module _ (theory : Theory) (first : ℕ) where
   pub two_each : (t u : Tree) (cs : List Choices) → AreOpen (both_choices t u) cs → All (λ (c : Choices). length c.results ≡ 2) cs
   two_each t u cs h =
       kept_all (λ (c : Choices). length c.results ≡ 2) h.thinned
-      (all_joined (λ (c : Choices). length c.results ≡ 1) (λ (c : Choices). length c.results ≡ 2) (λ c. map (Cases.joined c) (choices theory c.next u)) (choices theory first t) (one_result_each theory first t)
-        (λ c e. all_mapped_within (λ (d : Choices). length d.results ≡ 1) (λ (d : Choices). length d.results ≡ 2) (Cases.joined c) (choices theory c.next u) (one_result_each theory c.next u)
-          (λ d k. omega (arith, length-append c.results d.results, e, k))))
+      (all_joined (λ (c : Choices). length c.results ≡ 1) (λ (c : Choices). length c.results ≡ 2) (λ (c : Choices). map (Cases.joined c) (choices theory c.next u)) (choices theory first t) (one_result_each theory first t)
+      (λ c e. all_mapped_within (λ (d : Choices). length d.results ≡ 1) (λ (d : Choices). length d.results ≡ 2) (Cases.joined c) (choices theory c.next u) (one_result_each theory c.next u)
+      (λ d k. omega (arith, length-append c.results d.results, e, k))))
 
   first_there : (t : Tree) (rs ss : List Tree) → length rs ≡ 1 → result_of (rs ++ ss) t ≡ result_of rs t
   first_there t [] ss e = absurd (omega arith)
@@ -72,22 +73,24 @@ module _ (theory : Theory) (first : ℕ) where
       let a = first_there t c.results d.results e in
       let b = second_there u c.results d.results e in
       let s = append_assoc c.equations d.equations ((result_of c.results t, result_of d.results u) ∷ []) in
-      (λ i. record { equations = (c.equations ++ d.equations) ++ (a i, b i) ∷ []; result = a i })
-      ∙ (λ i. record { equations = s i; result = result_of c.results t })
+      let made : Tree → Tree → Case = λ v w. record { equations = (c.equations ++ d.equations) ++ (v, w) ∷ []; result = v } in
+      let moved : as_equal_case t u (Cases.joined c d) ≡ made (result_of c.results t) (result_of d.results u) = λ i. made (a i) (b i) in
+      let grouped : made (result_of c.results t) (result_of d.results u) ≡ equal_with t c u d = λ i. record { equations = s i; result = result_of c.results t } in
+      moved ∙ grouped
 
   both_cases : (t u : Tree) → map (as_equal_case t u) (both_choices t u) ≡ equal_cases theory first t u
   both_cases t u =
       mapped_joined (as_equal_case t u) (λ (c : Choices). map (Cases.joined c) (choices theory c.next u)) (choices theory first t)
       ∙ joined_within (λ (c : Choices). map (as_equal_case t u) (map (Cases.joined c) (choices theory c.next u))) (λ (c : Choices). map (equal_with t c u) (choices theory c.next u))
       (λ (c : Choices). length c.results ≡ 1) (choices theory first t) (one_result_each theory first t)
-      (λ c e. mapped_in_turn (as_equal_case t u) (Cases.joined c) (choices theory c.next u) ∙ mapped_alike (λ d. as_equal_case t u (Cases.joined c d)) (equal_with t c u) (choices theory c.next u) (λ d. same_case t u c d e))
+      (λ c e. mapped_in_turn (as_equal_case t u) (Cases.joined c) (choices theory c.next u) ∙ mapped_alike (λ (d : Choices). as_equal_case t u (Cases.joined c d)) (equal_with t c u) (choices theory c.next u) (λ d. same_case t u c d e))
 
   pub equal_answers : (t u : Tree) (cs : List Choices) (found : List Case) → AreOpen (both_choices t u) cs → ArePossible (map (as_equal_case t u) cs) found → ArePossible (equal_cases theory first t u) found
   equal_answers t u cs found h k = record {
     pruned =
         pruned_in_turn
         (subst (λ xs. IsPruned xs (map (as_equal_case t u) cs)) (both_cases t u)
-          (pruned_as (as_equal_case t u) (λ c n. shut_longer c.equations ((result_of c.results t, second_of c.results u) ∷ []) n) h.thinned))
+        (pruned_as (as_equal_case t u) (λ c n. shut_longer c.equations ((result_of c.results t, second_of c.results u) ∷ []) n) h.thinned))
         k.pruned;
     possible = k.possible;
   }
@@ -112,3 +115,19 @@ next_possible all c rest kept old new h (inl a) k =
     (h (c ∷ kept) (record { pruned = keeps k.pruned; possible = All-cons (λ (x : Case). IsUnifiable x.equations) c kept a.0 k.possible }))
 next_possible all c rest kept old new h (inr a) k =
     subst (ArePossible all) (sym (ap (λ xs. xs ++ kept) a.1)) (h kept (record { pruned = leaves_out a.0 k.pruned; possible = k.possible }))
+
+pub popped_all : (P : Choices → Type 0) (cs popped : List Choices) (c : Choices) → cs ≡ popped ++ c ∷ [] → All P cs → All P popped × P c
+popped_all P cs popped c e a =
+    let h : All P (popped ++ c ∷ []) = subst (All P) e a in (all_left P popped (c ∷ []) h, All-head P c [] (all_right P popped (c ∷ []) h))
+
+pub reversed_all : (P : Choices → Type 0) (cs : List Choices) → All P cs → All P (reverse cs)
+reversed_all P cs a = λ k d h.
+    let l : k < length cs = omega (arith, h, length-reverse cs) in
+    subst P (sym (get_or-reverse cs k d l)) (a (length cs - 1 - k) d (omega arith))
+
+-- the agenda at the start
+pub one_task : (r : TermRef) (empty items : List Task) → empty ≡ [] → items ≡ empty ++ Evaluate r ∷ [] → reverse items ≡ Evaluate r ∷ []
+one_task r empty items e h = ap reverse (h ∙ ap (λ ts. ts ++ Evaluate r ∷ []) e)
+
+pub two_tasks : (r s : TermRef) (empty one items : List Task) → empty ≡ [] → one ≡ empty ++ Evaluate s ∷ [] → items ≡ one ++ Evaluate r ∷ [] → reverse items ≡ Evaluate r ∷ Evaluate s ∷ []
+two_tasks r s empty one items e h k = ap reverse (k ∙ ap (λ ts. ts ++ Evaluate r ∷ []) (h ∙ ap (λ ts. ts ++ Evaluate s ∷ []) e))

@@ -1,5 +1,6 @@
 -- Terms without destructors, node by node.
-use Rattle.std.proofs.Common.{◌≡◌, ℕ, zero, suc, List, [], ◌∷◌, length, take, drop, subst, sym, refl, ◌∙◌, true, false, true≢false}
+use Rattle.std.proofs.Common.{◌≡◌, ℕ, zero, suc, List, [], ◌∷◌, length, take, drop, subst, sym, refl, ◌∙◌, Bool, true, false, true≢false}
+use Rattle.std.specs.Prelude.{MatchBool}
 use Rattle.dps_terms.specs.declared.Sym.{Sym}
 use Rattle.dps_terms.specs.declared.TermView.{TermView}
 use Rattle.dps_terms.specs.declared.TermView.TheVariants.{App}
@@ -61,3 +62,7 @@ module _ (theory : Theory) where
   pub other_free : (t : Tree) → ((f : Sym) → view_of t ≡ App f → ⊥) → IsRootFree theory t
   other_free (app g ts) h = absurd (h g refl)
   other_free (leaf x) h = tt
+
+  pub root_told : (t : Tree) (f : Sym) (b : Bool) → App f ≡ view_of t → b ≡ is_destructor theory f → MatchBool b (¬ IsRootFree theory t) (IsRootFree theory t)
+  root_told t f true e h = symbol_not_free t f e (sym h)
+  root_told t f false e h = symbol_free t f e (sym h)

@@ -1,6 +1,6 @@
 -- What the rules of a destructor make of choices, rule by rule.
 use Rattle.std.proofs.Common.{◌≡◌, ℕ, zero, suc, ◌+◌, ◌<◌, ◌≤◌, ◌^◌, List, [], ◌∷◌, ◌++◌, length, map, take, drop, get_or, slice_get, Some, filter, refl, sym, ◌∙◌, ap, subst, arith, append_assoc, length-append, Bool, true, false, cond}
-use Rattle.std.specs.Prelude.{All, Contains, max}
+use Rattle.std.specs.Prelude.{All, Contains, max, min}
 use Rattle.std.specs.List.{flat_map, filter_map, cons_option, zip}
 use Rattle.std.proofs.Math.Seq.{take-suc}
 use Rattle.std.proofs.lemmas.List.{append-nil, map-append}
@@ -26,18 +26,19 @@ adds_nothing old = record { added = []; are_open = none_open; behind = sym (appe
 open_beside : (all kept more added : List Choices) → AreOpen all kept → AreOpen more added → AreOpen (all ++ more) (kept ++ added)
 open_beside all kept more added h k = record { thinned = beside h.thinned k.thinned; unifiable = All-append IsOpen kept added h.unifiable k.unifiable }
 
-adds_one : (all old new after : List Choices) (d : Choices) → AddsOpen all old new → IsOpen d → after ≡ new ++ d ∷ [] → AddsOpen (all ++ d ∷ []) old after
-adds_one all old new after d h u e = record {
-  added = h.added ++ d ∷ [];
-  are_open = open_beside all h.added (d ∷ []) (d ∷ []) h.are_open (record { thinned = stays none_left; unifiable = All-cons IsOpen d [] u (All-nil IsOpen) });
-  behind = e ∙ (ap (λ cs. cs ++ d ∷ []) h.behind ∙ append_assoc old h.added (d ∷ []));
-}
+pub adds_one : (old new : List Choices) (d e : Choices) → d ≡ e → IsOpen d → new ≡ old ++ d ∷ [] → AddsOpen (e ∷ []) old new
+adds_one old new d e same u n =
+    subst (λ (x : Choices). AddsOpen (x ∷ []) old new) same
+    (record { added = d ∷ []; are_open = record { thinned = stays none_left; unifiable = All-cons IsOpen d [] u (All-nil IsOpen) }; behind = n })
 
-adds_none : (all old new : List Choices) (d : Choices) → AddsOpen all old new → IsNotUnifiable d.equations → AddsOpen (all ++ d ∷ []) old new
-adds_none all old new d h n = record {
-  added = h.added;
-  are_open = subst (AreOpen (all ++ d ∷ [])) (append-nil h.added) (open_beside all h.added (d ∷ []) [] h.are_open (record { thinned = goes n none_left; unifiable = All-nil IsOpen }));
-  behind = h.behind;
+pub adds_none : (old : List Choices) (d : Choices) → IsNotUnifiable d.equations → AddsOpen (d ∷ []) old old
+adds_none old d n = record { added = []; are_open = record { thinned = goes n none_left; unifiable = All-nil IsOpen }; behind = sym (append-nil old) }
+
+adds_both : (all more old new after : List Choices) → AddsOpen all old new → AddsOpen more new after → AddsOpen (all ++ more) old after
+adds_both all more old new after h k = record {
+  added = h.added ++ k.added;
+  are_open = open_beside all h.added more k.added h.are_open k.are_open;
+  behind = k.behind ∙ (ap (λ cs. cs ++ k.added) h.behind ∙ append_assoc old h.added k.added);
 }
 
 -- choices one by one
@@ -93,14 +94,9 @@ module _ (n : ℕ) (c : Choices) (rules : List Rule) (ps : List ℕ) (i : ℕ) (
   made : map (reduced_last n c) (at_places rules (take (suc i) ps)) ≡ map (reduced_last n c) (at_places rules (take i ps)) ++ reduced_last n c r ∷ []
   made = ap (map (reduced_last n c)) (at_more rules ps i r l e) ∙ map-append (reduced_last n c) (at_places rules (take i ps)) (r ∷ [])
 
-  pub reduces_one : (old new after : List Choices) (d : Choices) → d ≡ reduced_last n c r → IsOpen d → after ≡ new ++ d ∷ [] → AddsOpen (map (reduced_last n c) (at_places rules (take i ps))) old new → AddsOpen (map (reduced_last n c) (at_places rules (take (suc i) ps))) old after
-  reduces_one old new after d same u a h =
-      subst (λ xs. AddsOpen xs old after) (sym made)
-      (subst (λ (x : Choices). AddsOpen (map (reduced_last n c) (at_places rules (take i ps)) ++ x ∷ []) old after) same
-      (adds_one (map (reduced_last n c) (at_places rules (take i ps))) old new after d h u a))
-
-  pub reduces_none : (old new : List Choices) → IsNotUnifiable (reduced_last n c r).equations → AddsOpen (map (reduced_last n c) (at_places rules (take i ps))) old new → AddsOpen (map (reduced_last n c) (at_places rules (take (suc i) ps))) old new
-  reduces_none old new u h = subst (λ xs. AddsOpen xs old new) (sym made) (adds_none (map (reduced_last n c) (at_places rules (take i ps))) old new (reduced_last n c r) h u)
+  pub reduces_more : (old new after : List Choices) → AddsOpen (map (reduced_last n c) (at_places rules (take i ps))) old new → AddsOpen (reduced_last n c r ∷ []) new after → AddsOpen (map (reduced_last n c) (at_places rules (take (suc i) ps))) old after
+  reduces_more old new after h k =
+      subst (λ xs. AddsOpen xs old after) (sym made) (adds_both (map (reduced_last n c) (at_places rules (take i ps))) (reduced_last n c r ∷ []) old new after h k)
 
 -- room for the numbers of a rule
 pub left_room : (r : Rule) (next after : ℕ) → after ≡ next + room r → after < 2 ^ 64 → HasRoom r.left next
@@ -108,3 +104,20 @@ left_room r next after e l = λ n k. omega (arith, left_below r n k, e, l)
 
 pub right_room : (r : Rule) (next after : ℕ) → IsBounded r → after ≡ next + room r → after < 2 ^ 64 → HasRoom r.right next
 right_room r next after b e l = λ n k. omega (arith, right_below r b n k, e, l)
+
+-- pairs one by one
+pub zip_at : (xs ys : List Tree) (i : ℕ) (x y d : Tree) → i < length xs → x ≡ get_or xs i d → slice_get ys i ≡ Some y → take (suc i) (zip xs ys) ≡ take i (zip xs ys) ++ (x, y) ∷ []
+zip_at [] ys i x y d l e h = absurd (omega (arith, l))
+zip_at (a ∷ xs) [] i x y d l e h = cc
+zip_at (a ∷ xs) (b ∷ ys) zero x y d l e h =
+    let same : b ≡ y = cc in
+    λ j. ((sym e) j, same j) ∷ []
+zip_at (a ∷ xs) (b ∷ ys) (suc i) x y d l e h = ap (λ ps. (a, b) ∷ ps) (zip_at xs ys i x y d (omega (arith, l)) e h)
+
+pub zip_whole : (xs ys : List Tree) (n : ℕ) → min (length xs) (length ys) ≤ n → take n (zip xs ys) ≡ zip xs ys
+zip_whole [] ys zero l = refl
+zip_whole [] ys (suc n) l = refl
+zip_whole (x ∷ xs) [] zero l = refl
+zip_whole (x ∷ xs) [] (suc n) l = refl
+zip_whole (x ∷ xs) (y ∷ ys) zero l = absurd (omega (arith, l))
+zip_whole (x ∷ xs) (y ∷ ys) (suc n) l = ap (λ ps. (x, y) ∷ ps) (zip_whole xs ys n (omega (arith, l)))

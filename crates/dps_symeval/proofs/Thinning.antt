@@ -1,5 +1,5 @@
 -- Choices of which some that nothing makes true are left out.
-use Rattle.std.proofs.Common.{◌≡◌, ℕ, List, [], ◌∷◌, ◌++◌, map, refl, sym, ap, subst, Bool, true, false, cond}
+use Rattle.std.proofs.Common.{◌≡◌, ℕ, List, [], ◌∷◌, ◌++◌, length, map, refl, sym, ap, subst, Bool, true, false, cond}
 use Rattle.std.specs.Prelude.{All}
 use Rattle.std.specs.List.{flat_map}
 use Rattle.std.proofs.lemmas.List.Elements.{All-nil, All-cons, All-head, All-tail, All-append}
@@ -59,7 +59,7 @@ shut_last theory f n c k =
 
 shut_root : (theory : Theory) (t : Tree) (c : Choices) → IsShut c → All IsShut (root_applied theory t c)
 shut_root theory (leaf x) c k = All-cons IsShut c [] k (All-nil IsShut)
-shut_root theory (app f ts) c k = shut_last theory f _ c k
+shut_root theory (app f ts) c k = shut_last theory f (length (list_of ts)) c k
 
 pub shut_done : (theory : Theory) (task : Task) (c : Choices) → IsShut c → All IsShut (done theory task c)
 shut_done theory (Evaluate t) c k =

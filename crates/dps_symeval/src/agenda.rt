@@ -3,7 +3,7 @@ ghost use Rattle.std.specs.Prelude.{◌≡◌, ◌<◌, ◌≤◌, ◌+◌, ◌*
 ghost use Rattle.std.specs.List.{flat_map};
 ghost use Rattle.dps_terms.specs.Tree.{node_count};
 ghost use Rattle.dps_terms.specs.Seen.{seen};
-ghost use Rattle.dps_symeval.specs.Cases.{is_destructor};
+ghost use Rattle.dps_symeval.specs.Cases.{is_destructor as computes};
 ghost use Rattle.dps_symeval.specs.Agenda.{AreOpen, IsOpen, IsThinned, no_terms, all_done, weight, weights, GoesOn, IsBegun, with_result, root_applied, applied_last, constructed_last, IsFree, IsRootFree};
 
 use crate::choices::Choices;
@@ -183,7 +183,7 @@ fn has_destructor_root(theory: &Theory, term: TermRef<'_>) -> bool
 
 /// Whether the symbol computes by rules.
 fn is_destructor(theory: &Theory, sym: Sym) -> bool
-    ensures { result ≡ is_destructor theory.now sym }
+    ensures { result ≡ computes theory.now sym }
 {
     match theory.kind(sym) {
         Some(SymKind::Destructor) => true,

@@ -1,8 +1,8 @@
 //! The cases of terms.
 ghost use Rattle.std.specs.Prelude.{◌≡◌, map, All, length, IfOk, OnOk};
 ghost use Rattle.dps_terms.specs.Tree.{Tree};
-ghost use Rattle.dps_symeval.specs.Cases.{cases as cases_of, equal_cases as equal_cases_of, ArePossible, as_case};
-ghost use Rattle.dps_symeval.specs.Agenda.{as_equal_case, AddsPossible};
+ghost use Rattle.dps_symeval.specs.Cases.{cases as cases_of, equal_cases as equal_cases_of, ArePossible, as_case as case_of};
+ghost use Rattle.dps_symeval.specs.Agenda.{as_equal_case as equal_case_of, AddsPossible};
 
 use crate::Case;
 use crate::agenda::{Task, choices_of};
@@ -21,12 +21,7 @@ use std::alloc::Global;
 /// takes time by the cases that there are, and not by the rules that could be chosen.
 ///
 /// `Err` comes where memory runs out, or where a variable's number would pass 2^64 - 1.
-pub fn cases(
-    alloc: Global,
-    theory: &Theory,
-    term: &Term,
-    first: u64,
-) -> Result<Vec<Case>, NoMemory>
+pub fn cases(alloc: Global, theory: &Theory, term: &Term, first: u64) -> Result<Vec<Case>, NoMemory>
     ensures { IfOk result (λ v. ArePossible (cases_of theory.now first term.now) v.items) }
 {
     let mut agenda = Vec::with_capacity(alloc, 1)?;
@@ -58,7 +53,7 @@ pub fn equal_cases(
 /// The cases of choices for one term.
 fn as_cases(alloc: Global, mut choices: Vec<Choices>) -> Result<Vec<Case>, NoMemory>
     requires { All (λ c. length c.results ≡ 1) choices.items }
-    ensures { IfOk result (λ v. (t : Tree) → v.items ≡ map (as_case t) choices.items) }
+    ensures { IfOk result (λ v. (t : Tree) → v.items ≡ map (case_of t) choices.items) }
 {
     choices.as_mut_slice().reverse();
     let mut cases = Vec::with_capacity(alloc, choices.len())?;
@@ -71,7 +66,7 @@ fn as_cases(alloc: Global, mut choices: Vec<Choices>) -> Result<Vec<Case>, NoMem
 /// The case of choices for one term.
 fn as_case(choices: Choices) -> Case
     requires { length choices.results ≡ 1 }
-    ensures { (t : Tree) → result ≡ as_case t choices }
+    ensures { (t : Tree) → result ≡ case_of t choices }
 {
     let Choices {
         equations,
@@ -87,7 +82,7 @@ fn as_case(choices: Choices) -> Case
 /// The joined cases of choices for two terms, but those whose equations nothing makes true.
 fn as_equal_cases(alloc: Global, mut choices: Vec<Choices>) -> Result<Vec<Case>, NoMemory>
     requires { All (λ c. length c.results ≡ 2) choices.items }
-    ensures { IfOk result (λ v. (t u : Tree) → ArePossible (map (as_equal_case t u) choices.items) v.items) }
+    ensures { IfOk result (λ v. (t u : Tree) → ArePossible (map (equal_case_of t u) choices.items) v.items) }
 {
     choices.as_mut_slice().reverse();
     let mut cases = Vec::with_capacity(alloc, choices.len())?;
@@ -98,13 +93,9 @@ fn as_equal_cases(alloc: Global, mut choices: Vec<Choices>) -> Result<Vec<Case>,
 }
 
 /// Adds the joined case of the choices, unless nothing makes its equations true.
-fn add_equal_case(
-    alloc: Global,
-    choices: Choices,
-    cases: &mut Vec<Case>,
-) -> Result<(), NoMemory>
+fn add_equal_case(alloc: Global, choices: Choices, cases: &mut Vec<Case>) -> Result<(), NoMemory>
     requires { length choices.results ≡ 2 }
-    ensures { OnOk result ((t u : Tree) → AddsPossible (as_equal_case t u choices) cases.old.items cases.new.items) }
+    ensures { OnOk result ((t u : Tree) → AddsPossible (equal_case_of t u choices) cases.old.items cases.new.items) }
 {
     let case = as_equal_case(alloc, choices)?;
     if are_unifiable(alloc, &case.equations)? {
@@ -116,7 +107,7 @@ fn add_equal_case(
 /// The joined case of choices for two terms.
 fn as_equal_case(alloc: Global, choices: Choices) -> Result<Case, NoMemory>
     requires { length choices.results ≡ 2 }
-    ensures { IfOk result (λ case. (t u : Tree) → case ≡ as_equal_case t u choices) }
+    ensures { IfOk result (λ case. (t u : Tree) → case ≡ equal_case_of t u choices) }
 {
     let Choices {
         mut equations,

@@ -47,11 +47,29 @@ fn narrow(
 {
     let rules = theory.rules();
     for place in theory.of(sym) {
-        if let Some(reduced) = reduced(alloc, &rules[*place as usize], arity, choice)? {
-            found.push(reduced)?;
-        }
+        add_reduced(alloc, &rules[*place as usize], arity, choice, found)?;
     }
     Ok(())
+}
+
+/// Adds what the rule makes of the choice.
+fn add_reduced(
+    alloc: Global,
+    rule: &Rule,
+    arity: u32,
+    choice: &Choices,
+    found: &mut Vec<Choices>,
+) -> Result<(), NoMemory>
+    requires { IsBounded rule.now }
+    ensures { OnOk result (AddsOpen (reduced_last arity choice.now rule.now ∷ []) found.old.items found.new.items) }
+{
+    match reduced(alloc, rule, arity, choice)? {
+        Some(reduced) => {
+            found.push(reduced)?;
+            Ok(())
+        }
+        None => Ok(()),
+    }
 }
 
 /// What the rule makes of the choice, over the last results. `None` comes exactly where nothing makes the equations true.
@@ -111,12 +129,11 @@ fn with_fits(
 {
     let mut all = copies_of_pairs(alloc, equations)?;
     let left = left.whole();
-    for (index, argument) in arguments.iter().enumerate() {
-        if index < left.arity() as usize {
-            let argument = argument.copy(alloc)?;
-            let pattern = left.argument(index as u32).copy(alloc)?;
-            all.push((argument, pattern))?;
-        }
+    let count = arguments.len().min(left.arity() as usize);
+    for index in 0..count {
+        let argument = arguments[index].copy(alloc)?;
+        let pattern = left.argument(index as u32).copy(alloc)?;
+        all.push((argument, pattern))?;
     }
     Ok(all)
 }
@@ -148,10 +165,7 @@ fn copies_of_pairs(alloc: Global, pairs: &[(Term, Term)]) -> Result<Vec<(Term, T
 }
 
 /// Whether some substitution makes the equations true.
-pub(crate) fn are_unifiable(
-    alloc: Global,
-    equations: &[(Term, Term)],
-) -> Result<bool, NoMemory>
+pub(crate) fn are_unifiable(alloc: Global, equations: &[(Term, Term)]) -> Result<bool, NoMemory>
     ensures { IfOk result (λ b. MatchBool b (IsUnifiable equations.now) (IsNotUnifiable equations.now)) }
 {
     let order = VarOrder {

@@ -151,6 +151,9 @@ fn counts_of_cases(rt: HostRuntime) {
         ("nd", "x", (0, 0)),
     ];
     for (left, right, wanted) in equal_table {
-        assert!(rt; equal_cases_of(alloc, &theory, left, right) == wanted, "{left} {right}");
+        assert!(rt;
+            equal_cases_of(alloc, &theory, left, right) == wanted,
+            "{left} {right}"
+        );
     }
 }
