@@ -2,20 +2,26 @@
 use Rattle.std.proofs.Common.{◌≡◌, ℕ, zero, suc, ◌+◌, ◌<◌, ◌≤◌, ◌^◌, List, [], ◌∷◌, ◌++◌, length, map, take, drop, get_or, slice_get, Some, filter, refl, sym, ◌∙◌, ap, subst, arith, append_assoc, length-append, Bool, true, false, cond}
 use Rattle.std.specs.Prelude.{All, Contains, max, min}
 use Rattle.std.specs.List.{flat_map, filter_map, cons_option, zip}
-use Rattle.std.proofs.Math.Seq.{take-suc}
-use Rattle.std.proofs.lemmas.List.{append-nil, map-append}
+use Rattle.std.proofs.Math.Seq.{take-suc, drop-cons}
+use Rattle.std.proofs.lemmas.List.{append-nil, map-append, take_all, drop_all}
 use Rattle.std.proofs.lemmas.List.Elements.{All-nil, All-cons, All-append, filter_map-append}
+use Rattle.dps_terms.specs.declared.Sym.{Sym}
 use Rattle.dps_terms.specs.Tree.{Tree, StandsIn, var}
 use Rattle.dps_unify.specs.Unifier.{IsNotUnifiable}
 use Rattle.dps_unify.specs.Renaming.{HasRoom}
-use Rattle.dps_theory.specs.Theory.{Rule, Theory, IsBounded}
+use Rattle.dps_theory.specs.Theory.{Rule, Theory, IsBounded, IsAccepted}
 use Rattle.dps_theory.specs.Overlaps.{room, least_above}
 use Rattle.dps_theory.specs.Index.{has_root, places_from, places}
 use Rattle.dps_symeval.specs.Cases.{Choices, rules_of}
 use Rattle.dps_symeval.specs.Agenda.{IsThinned, none_left, stays, goes, IsOpen, AreOpen, AddsOpen, at_places, reduced_last, narrowed_last}
+use Rattle.dps_symeval.proofs.Listed.{contains_first, contains_later}
 use Rattle.dps_symeval.proofs.Complete.{left_below, right_below}
 use Rattle.dps_symeval.proofs.Thinning.{beside}
 use Rattle.dps_symeval.proofs.Mapping.{joined_append}
+
+all_listed : (P : Rule → Type 0) (rules : List Rule) → ((r : Rule) → Contains rules r → P r) → All P rules
+all_listed P [] h = All-nil P
+all_listed P (r ∷ rules) h = All-cons P r rules (h r (contains_first r rules)) (all_listed P rules (λ q k. h q (contains_later r rules q k)))
 
 pub none_open : AreOpen [] []
 none_open = record { thinned = none_left; unifiable = All-nil IsOpen }
@@ -42,11 +48,13 @@ adds_both all more old new after h k = record {
 }
 
 -- choices one by one
-pub adds_more : (f : Choices → List Choices) (cs : List Choices) (i : ℕ) (d : Choices) (old new : List Choices) → i < length cs → AreOpen (flat_map f (take i cs)) old → AddsOpen (f (get_or cs i d)) old new → AreOpen (flat_map f (take (suc i) cs)) new
-adds_more f cs i d old new l h k =
-    subst (λ xs. AreOpen (flat_map f xs) new) (sym (take-suc cs i d l))
-    (subst (λ xs. AreOpen xs new) (sym (joined_append f (take i cs) (get_or cs i d ∷ []) ∙ ap (λ xs. flat_map f (take i cs) ++ xs) (append-nil (f (get_or cs i d)))))
-    (subst (AreOpen (flat_map f (take i cs) ++ f (get_or cs i d))) (sym k.behind) (open_beside (flat_map f (take i cs)) old (f (get_or cs i d)) k.added h k.are_open)))
+pub adds_more : (f : Choices → List Choices) (cs : List Choices) (i j : ℕ) (d : Choices) (old new : List Choices) → i < length cs → j ≡ suc i → d ≡ get_or cs i d → AreOpen (flat_map f (take i cs)) old → AddsOpen (f d) old new → AreOpen (flat_map f (take j cs)) new
+adds_more f cs i j d old new l s e h k =
+    let one : take j cs ≡ take i cs ++ d ∷ [] = ap (λ m. take m cs) s ∙ (take-suc cs i d l ∙ ap (λ (x : Choices). take i cs ++ x ∷ []) (sym e)) in
+    let parts : flat_map f (take i cs ++ d ∷ []) ≡ flat_map f (take i cs) ++ f d = joined_append f (take i cs) (d ∷ []) ∙ ap (λ xs. flat_map f (take i cs) ++ xs) (append-nil (f d)) in
+    subst (λ xs. AreOpen (flat_map f xs) new) (sym one)
+    (subst (λ xs. AreOpen xs new) (sym parts)
+    (subst (AreOpen (flat_map f (take i cs) ++ f d)) (sym k.behind) (open_beside (flat_map f (take i cs)) old (f d) k.added h k.are_open)))
 
 -- the rules at the places of a root
 module _ (g : ℕ) where
@@ -90,13 +98,28 @@ at_more rules ps i r l e =
     ∙ (filter_map-append (slice_get rules) (take i ps) (get_or ps i 0 ∷ [])
     ∙ ap (λ o. at_places rules (take i ps) ++ cons_option o []) e)
 
-module _ (n : ℕ) (c : Choices) (rules : List Rule) (ps : List ℕ) (i : ℕ) (r : Rule) (l : i < length ps) (e : slice_get rules (get_or ps i 0) ≡ Some r) where
-  made : map (reduced_last n c) (at_places rules (take (suc i) ps)) ≡ map (reduced_last n c) (at_places rules (take i ps)) ++ reduced_last n c r ∷ []
-  made = ap (map (reduced_last n c)) (at_more rules ps i r l e) ∙ map-append (reduced_last n c) (at_places rules (take i ps)) (r ∷ [])
-
-  pub reduces_more : (old new after : List Choices) → AddsOpen (map (reduced_last n c) (at_places rules (take i ps))) old new → AddsOpen (reduced_last n c r ∷ []) new after → AddsOpen (map (reduced_last n c) (at_places rules (take (suc i) ps))) old after
-  reduces_more old new after h k =
+module _ (n : ℕ) (c : Choices) (rules : List Rule) (ps : List ℕ) (i : ℕ) where
+  pub reduces_more : (j : ℕ) (r : Rule) → i < length ps → slice_get rules (get_or ps i 0) ≡ Some r → j ≡ suc i → (old new after : List Choices) → AddsOpen (map (reduced_last n c) (at_places rules (take i ps))) old new → AddsOpen (reduced_last n c r ∷ []) new after → AddsOpen (map (reduced_last n c) (at_places rules (take j ps))) old after
+  reduces_more j r l e s old new after h k =
+      let made : map (reduced_last n c) (at_places rules (take j ps)) ≡ map (reduced_last n c) (at_places rules (take i ps)) ++ reduced_last n c r ∷ [] =
+      ap (λ m. map (reduced_last n c) (at_places rules (take m ps))) s
+      ∙ (ap (map (reduced_last n c)) (at_more rules ps i r l e) ∙ map-append (reduced_last n c) (at_places rules (take i ps)) (r ∷ [])) in
       subst (λ xs. AddsOpen xs old after) (sym made) (adds_both (map (reduced_last n c) (at_places rules (take i ps))) (reduced_last n c r ∷ []) old new after h k)
+
+  pub reduces_all : (old new : List Choices) → length ps ≤ i → AddsOpen (map (reduced_last n c) (at_places rules (take i ps))) old new → AddsOpen (map (reduced_last n c) (at_places rules ps)) old new
+  reduces_all old new l h = subst (λ xs. AddsOpen (map (reduced_last n c) (at_places rules xs)) old new) (take_all i ps l) h
+
+-- the rules of a theory
+pub all_within : (theory : Theory) (g : Sym) (rules : List Rule) (ps : List ℕ) → rules ≡ theory.rules → ps ≡ places theory.rules g.number → All (λ p. p < length rules) ps
+all_within theory g rules ps e h =
+    let n : 0 + length theory.rules ≤ length theory.rules = omega arith in
+    subst (λ rs. All (λ p. p < length rs) ps) (sym e) (subst (λ qs. All (λ p. p < length theory.rules) qs) (sym h) (places_within g.number theory.rules 0 (length theory.rules) n))
+
+pub all_bounded : (theory : Theory) (rules : List Rule) → rules ≡ theory.rules → IsAccepted theory → All IsBounded rules
+all_bounded theory rules e a = subst (All IsBounded) (sym e) (all_listed IsBounded theory.rules (λ r k. a.bounded r k))
+
+pub rules_at : (theory : Theory) (g : Sym) (rules : List Rule) (ps : List ℕ) → rules ≡ theory.rules → ps ≡ places theory.rules g.number → at_places rules ps ≡ rules_of theory g
+rules_at theory g rules ps e h = (λ i. at_places (e i) (h i)) ∙ at_all_places g.number theory.rules
 
 -- room for the numbers of a rule
 pub left_room : (r : Rule) (next after : ℕ) → after ≡ next + room r → after < 2 ^ 64 → HasRoom r.left next
@@ -121,3 +144,15 @@ zip_whole (x ∷ xs) [] zero l = refl
 zip_whole (x ∷ xs) [] (suc n) l = refl
 zip_whole (x ∷ xs) (y ∷ ys) zero l = absurd (omega (arith, l))
 zip_whole (x ∷ xs) (y ∷ ys) (suc n) l = ap (λ ps. (x, y) ∷ ps) (zip_whole xs ys n (omega (arith, l)))
+
+-- the number after those of a rule
+pub least_step : (vs : List ℕ) (i j v next after above total : ℕ) → i < length vs → j ≡ suc i → v ≡ get_or vs i 0 → above ≡ v + next + 1 → max after (next + least_above (drop i vs)) ≡ total → max (max after above) (next + least_above (drop j vs)) ≡ total
+least_step vs i j v next after above total l s e a h =
+    let first : least_above (drop i vs) ≡ max (suc v) (least_above (drop j vs)) =
+    ap least_above (drop-cons vs i 0 l) ∙ ((λ k. max (suc ((sym e) k)) (least_above (drop ((sym s) k) vs)))) in
+    omega (arith, first, a, h)
+
+pub least_end : (vs : List ℕ) (i next after : ℕ) → length vs ≤ i → next ≤ after → max after (next + least_above (drop i vs)) ≡ next + least_above vs → after ≡ next + least_above vs
+least_end vs i next after l k h =
+    let none : least_above (drop i vs) ≡ 0 = ap least_above (drop_all i vs l) in
+    omega (arith, none, k, h)

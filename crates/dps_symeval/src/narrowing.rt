@@ -1,5 +1,5 @@
 //! What the rules of a destructor make of results: one step of narrowing.
-ghost use Rattle.std.specs.Prelude.{◌≡◌, ◌≤◌, ◌∷◌, ◌++◌, [], ◌+◌, ◌^◌, ◌<◌, length, map, drop, take, IfOk, OnOk, MatchOption, IsTrue, MatchBool};
+ghost use Rattle.std.specs.Prelude.{◌≡◌, ◌≤◌, ◌∷◌, ◌++◌, [], ◌+◌, ◌^◌, ◌<◌, length, map, drop, take, IfOk, OnOk, MatchOption, MatchBool, IfSome, All};
 ghost use Rattle.std.specs.List.{zip, flat_map};
 ghost use Rattle.dps_unify.specs.Renaming.{raised};
 ghost use Rattle.dps_unify.specs.Unifier.{IsNotUnifiable};
@@ -8,7 +8,7 @@ ghost use Rattle.dps_theory.specs.Theory.{IsBounded};
 ghost use Rattle.dps_theory.specs.Overlaps.{room};
 ghost use Rattle.dps_theory.specs.Index.{places};
 ghost use Rattle.dps_symeval.specs.Cases.{IsUnifiable, reduced_by};
-ghost use Rattle.dps_symeval.specs.Agenda.{IsOpen, AreOpen, AddsOpen, reduced_last, narrowed_last};
+ghost use Rattle.dps_symeval.specs.Agenda.{IsOpen, AreOpen, AddsOpen, reduced_last, narrowed_last, at_places};
 
 use crate::choices::Choices;
 use dps_terms::{NoMemory, Sym, Term};
@@ -46,7 +46,23 @@ fn narrow(
     ensures { OnOk result (AddsOpen (narrowed_last theory.now sym arity choice.now) found.old.items found.new.items) }
 {
     let rules = theory.rules();
-    for place in theory.of(sym) {
+    reduce_all(alloc, rules, theory.of(sym), arity, choice, found)
+}
+
+/// Adds what the rules at these places make of the choice, in order.
+fn reduce_all(
+    alloc: Global,
+    rules: &[Rule],
+    places: &[u32],
+    arity: u32,
+    choice: &Choices,
+    found: &mut Vec<Choices>,
+) -> Result<(), NoMemory>
+    requires within { All (λ place. place < length rules.now) places.now }
+    requires bounded { All IsBounded rules.now }
+    ensures { OnOk result (AddsOpen (map (reduced_last arity choice.now) (at_places rules.now places.now)) found.old.items found.new.items) }
+{
+    for place in places {
         add_reduced(alloc, &rules[*place as usize], arity, choice, found)?;
     }
     Ok(())
@@ -104,18 +120,23 @@ fn reduced(
 fn next_after(alloc: Global, rule: &Rule, next: u64) -> Result<u64, NoMemory>
     ensures { IfOk result (λ n. n ≡ next + room rule.now) }
 {
-    let mut after = next;
     let variables = rule.left.vars(alloc)?;
+    let mut after = next;
     for variable in &variables {
-        let Some(raised) = variable.checked_add(next) else {
-            return Err(AllocError);
-        };
-        let Some(above) = raised.checked_add(1) else {
+        let Some(above) = number_above(*variable, next) else {
             return Err(AllocError);
         };
         after = after.max(above);
     }
     Ok(after)
+}
+
+/// The number after the variable's, where that is raised, and `None` where it passes 2^64 - 1.
+fn number_above(variable: u64, by: u64) -> Option<u64>
+    ensures { IfSome result (λ n. n ≡ variable + by + 1) }
+{
+    let raised = variable.checked_add(by)?;
+    raised.checked_add(1)
 }
 
 /// The equations, and those that make the arguments fit those of the left side.
