@@ -7,12 +7,13 @@ use Rattle.std.proofs.lemmas.List.{append-nil, map-append, take_all, drop_all}
 use Rattle.std.proofs.lemmas.List.Elements.{All-nil, All-cons, All-append, filter_map-append}
 use Rattle.dps_terms.specs.declared.Sym.{Sym}
 use Rattle.dps_terms.specs.Tree.{Tree, StandsIn, var}
-use Rattle.dps_unify.specs.Unifier.{IsNotUnifiable}
+use Rattle.dps_unify.specs.Unifier.{IsNotUnifiable, IsMgu}
+use Rattle.dps_terms.specs.Bindings.{image}
 use Rattle.dps_unify.specs.Renaming.{HasRoom}
 use Rattle.dps_theory.specs.Theory.{Rule, Theory, IsBounded, IsAccepted}
 use Rattle.dps_theory.specs.Overlaps.{room, least_above}
 use Rattle.dps_theory.specs.Index.{has_root, places_from, places}
-use Rattle.dps_symeval.specs.Cases.{Choices, rules_of}
+use Rattle.dps_symeval.specs.Cases.{Choices, IsUnifiable, rules_of}
 use Rattle.dps_symeval.specs.Agenda.{IsThinned, none_left, stays, goes, IsOpen, AreOpen, AddsOpen, at_places, reduced_last, narrowed_last}
 use Rattle.dps_symeval.proofs.Listed.{contains_first, contains_later}
 use Rattle.dps_symeval.proofs.Complete.{left_below, right_below}
@@ -156,3 +157,6 @@ pub least_end : (vs : List ℕ) (i next after : ℕ) → length vs ≤ i → nex
 least_end vs i next after l k h =
     let none : least_above (drop i vs) ≡ 0 = ap least_above (drop_all i vs l) in
     omega (arith, none, k, h)
+
+pub unified : (levels : List (ℕ × ℕ)) (pairs : List (Tree × Tree)) (s : List (ℕ × Tree)) → IsMgu levels pairs s → IsUnifiable pairs
+unified levels pairs s h = (image s, h.unifies)

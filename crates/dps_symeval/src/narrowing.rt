@@ -4,8 +4,9 @@ ghost use Rattle.std.specs.List.{zip, flat_map};
 ghost use Rattle.dps_unify.specs.Renaming.{raised};
 ghost use Rattle.dps_unify.specs.Unifier.{IsNotUnifiable};
 ghost use Rattle.dps_terms.specs.Views.{arguments};
+ghost use Rattle.dps_terms.specs.Variables.{variables};
 ghost use Rattle.dps_theory.specs.Theory.{IsBounded};
-ghost use Rattle.dps_theory.specs.Overlaps.{room};
+ghost use Rattle.dps_theory.specs.Overlaps.{least_above};
 ghost use Rattle.dps_theory.specs.Index.{places};
 ghost use Rattle.dps_symeval.specs.Cases.{IsUnifiable, reduced_by};
 ghost use Rattle.dps_symeval.specs.Agenda.{IsOpen, AreOpen, AddsOpen, reduced_last, narrowed_last, at_places};
@@ -101,7 +102,7 @@ fn reduced(
 {
     let front = choice.results.len().saturating_sub(arity as usize);
     let (others, arguments) = choice.results.as_slice().split_at(front);
-    let next = next_after(alloc, rule, choice.next)?;
+    let next = next_after(alloc, &rule.left, choice.next)?;
     let left = rename(alloc, &rule.left, choice.next)?;
     let equations = with_fits(alloc, &choice.equations, arguments, &left)?;
     if !are_unifiable(alloc, &equations)? {
@@ -116,11 +117,11 @@ fn reduced(
     }))
 }
 
-/// The first number after those of the rule's variables, where they are raised by `next`.
-fn next_after(alloc: Global, rule: &Rule, next: u64) -> Result<u64, NoMemory>
-    ensures { IfOk result (λ n. n ≡ next + room rule.now) }
+/// The first number after those of the term's variables, where they are raised by `next`, and not before `next`.
+fn next_after(alloc: Global, term: &Term, next: u64) -> Result<u64, NoMemory>
+    ensures { IfOk result (λ n. n ≡ next + least_above (variables term.now)) }
 {
-    let variables = rule.left.vars(alloc)?;
+    let variables = term.vars(alloc)?;
     let mut after = next;
     for variable in &variables {
         let Some(above) = number_above(*variable, next) else {
@@ -139,22 +140,22 @@ fn number_above(variable: u64, by: u64) -> Option<u64>
     raised.checked_add(1)
 }
 
-/// The equations, and those that make the arguments fit those of the left side.
+/// The equations, and those that make the terms fit the arguments of the left side.
 fn with_fits(
     alloc: Global,
     equations: &[(Term, Term)],
-    arguments: &[Term],
+    terms: &[Term],
     left: &Term,
 ) -> Result<Vec<(Term, Term)>, NoMemory>
-    ensures { IfOk result (λ v. v.items ≡ equations.now ++ zip arguments.now (arguments left.now)) }
+    ensures { IfOk result (λ v. v.items ≡ equations.now ++ zip terms.now (arguments left.now)) }
 {
     let mut all = copies_of_pairs(alloc, equations)?;
     let left = left.whole();
-    let count = arguments.len().min(left.arity() as usize);
+    let count = terms.len().min(left.arity() as usize);
     for index in 0..count {
-        let argument = arguments[index].copy(alloc)?;
+        let term = terms[index].copy(alloc)?;
         let pattern = left.argument(index as u32).copy(alloc)?;
-        all.push((argument, pattern))?;
+        all.push((term, pattern))?;
     }
     Ok(all)
 }
@@ -192,6 +193,8 @@ pub(crate) fn are_unifiable(alloc: Global, equations: &[(Term, Term)]) -> Result
     let order = VarOrder {
         levels: Vec::new(alloc),
     };
-    let unifier = mgu(alloc, &order, equations)?;
-    Ok(unifier.is_some())
+    match mgu(alloc, &order, equations)? {
+        Some(_) => Ok(true),
+        None => Ok(false),
+    }
 }

@@ -17,7 +17,7 @@ pub loop-left-preserved : goal.loop-left-preserved
 loop-left-preserved c = record {
   within = omega (arith, c.loop-left.invariant.within);
   begun = begun_more (seen c.args.term) c.loop-left.left (c.loop-left.left - 1) c.args.agenda.now.items c.loop-left.agenda.items c.push-in-loop-left.new.self.items c.argument.result
-      (omega (arith, c.loop-left-test.true)) c.argument.ensures c.in_ok-push-in-loop-left.ensures.items c.loop-left.invariant.begun;
+      (omega (arith, c.loop-left-test.true)) c.argument.ensures c.in_ok-push-2.ensures.items c.loop-left.invariant.begun;
 }
 
 pub returns : goal.returns

@@ -6,5 +6,5 @@ use Rattle.dps_symeval.proofs.narrowing.next_after.Given as goal
 abbrev pub invariant-loop-variable : goal.invariant-loop-variable
 invariant-loop-variable l = record {
   above : l.next ≤ l.after;
-  rest : max l.after (l.next + least_above (drop l.variable-index l.variables.items)) ≡ l.next + least_above l.variables.items;
+  rest : max l.after (l.next + least_above (drop l.variable-index l.variable-items)) ≡ l.next + least_above l.variable-items;
 }

@@ -5,4 +5,4 @@ use Rattle.dps_terms.specs.Views.{arguments}
 use Rattle.dps_symeval.proofs.narrowing.with_fits.Given as goal
 
 abbrev pub invariant-loop-index : goal.invariant-loop-index
-invariant-loop-index l = l.all.items ≡ l.equations ++ take l.index (zip l.arguments (arguments (seen l.left)))
+invariant-loop-index l = l.all.items ≡ l.equations ++ take l.index (zip l.terms (arguments (seen l.left)))
