@@ -160,3 +160,11 @@ least_end vs i next after l k h =
 
 pub unified : (levels : List (ℕ × ℕ)) (pairs : List (Tree × Tree)) (s : List (ℕ × Tree)) → IsMgu levels pairs s → IsUnifiable pairs
 unified levels pairs s h = (image s, h.unifies)
+
+pub fits_next : (es : List (Tree × Tree)) (xs ys : List Tree) (i j : ℕ) (x y t u : Tree) (old new : List (Tree × Tree)) → j ≡ suc i → i < length xs → x ≡ get_or xs i x → slice_get ys i ≡ Some y → t ≡ x → u ≡ y → new ≡ old ++ (t, u) ∷ [] → old ≡ es ++ take i (zip xs ys) → new ≡ es ++ take j (zip xs ys)
+fits_next es xs ys i j x y t u old new s l e h a b n o =
+    let pair : (t, u) ∷ [] ≡ (x, y) ∷ [] = λ k. (a k, b k) ∷ [] in
+    n ∙ ((λ k. o k ++ pair k) ∙ (append_assoc es (take i (zip xs ys)) ((x, y) ∷ []) ∙ ap (λ ps. es ++ ps) (sym (ap (λ m. take m (zip xs ys)) s ∙ zip_at xs ys i x y x l e h))))
+
+pub fits_all : (es : List (Tree × Tree)) (xs ys : List Tree) (i : ℕ) (all : List (Tree × Tree)) → min (length xs) (length ys) ≤ i → all ≡ es ++ take i (zip xs ys) → all ≡ es ++ zip xs ys
+fits_all es xs ys i all l e = e ∙ ap (λ ps. es ++ ps) (zip_whole xs ys i l)

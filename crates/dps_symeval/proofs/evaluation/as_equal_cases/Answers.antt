@@ -19,7 +19,7 @@ loop-choice-preserved c = record {
       next_possible (map (as_equal_case t u) c.args.choices.items) (as_equal_case t u c.in-Some.choice) (map (as_equal_case t u) (reverse c.pop.new.self.items)) kept
       c.loop-choice.cases.items c.add_equal_case.new.cases.items
       (λ others h. c.loop-choice.invariant.listed t u others (subst (λ (cs : List Choices). ArePossible (map (as_equal_case t u) cs) others)
-        (sym (popped_last c.loop-choice.choices.items c.pop.new.self.items c.in-Some.choice c.in-Some.ensures.items)) h))
+      (sym (popped_last c.loop-choice.choices.items c.pop.new.self.items c.in-Some.choice c.in-Some.ensures.items)) h))
       (c.in_ok-add_equal_case.ensures t u) k;
   two = (popped_all (λ (x : Choices). length x.results ≡ 2) c.loop-choice.choices.items c.pop.new.self.items c.in-Some.choice c.in-Some.ensures.items c.loop-choice.invariant.two).0;
 }
