@@ -1,7 +1,7 @@
 //! What the rules of a destructor make of results: one step of narrowing.
 ghost use Rattle.std.specs.Prelude.{◌≡◌, ◌≤◌, ◌∷◌, ◌++◌, [], ◌+◌, ◌^◌, ◌<◌, length, map, drop, take, IfOk, OnOk, MatchOption, MatchBool, IfSome, All};
 ghost use Rattle.std.specs.List.{zip, flat_map};
-ghost use Rattle.dps_unify.specs.Renaming.{raised};
+ghost use Rattle.dps_unify.specs.Renaming.{raised, HasRoom};
 ghost use Rattle.dps_unify.specs.Unifier.{IsNotUnifiable};
 ghost use Rattle.dps_terms.specs.Views.{arguments};
 ghost use Rattle.dps_terms.specs.Variables.{variables};
@@ -103,8 +103,7 @@ fn reduced(
     let front = choice.results.len().saturating_sub(arity as usize);
     let (others, arguments) = choice.results.as_slice().split_at(front);
     let next = next_after(alloc, &rule.left, choice.next)?;
-    let left = rename(alloc, &rule.left, choice.next)?;
-    let equations = with_fits(alloc, &choice.equations, arguments, &left)?;
+    let equations = with_left(alloc, &choice.equations, arguments, &rule.left, choice.next)?;
     if !are_unifiable(alloc, &equations)? {
         return Ok(None);
     }
@@ -138,6 +137,21 @@ fn number_above(variable: u64, by: u64) -> Option<u64>
 {
     let raised = variable.checked_add(by)?;
     raised.checked_add(1)
+}
+
+/// The equations, and those that make the terms fit the arguments of the left side, with its variables raised.
+fn with_left(
+    alloc: Global,
+    equations: &[(Term, Term)],
+    terms: &[Term],
+    left: &Term,
+    next: u64,
+) -> Result<Vec<(Term, Term)>, NoMemory>
+    requires { HasRoom left.now next }
+    ensures { IfOk result (λ v. v.items ≡ equations.now ++ zip terms.now (arguments (raised next left.now))) }
+{
+    let left = rename(alloc, left, next)?;
+    with_fits(alloc, equations, terms, &left)
 }
 
 /// The equations, and those that make the terms fit the arguments of the left side.
