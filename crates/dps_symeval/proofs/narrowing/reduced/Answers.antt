@@ -1,17 +1,14 @@
-use Rattle.std.proofs.Common.{◌≡◌, ◌+◌, ap, arith}
-use Rattle.dps_theory.specs.Overlaps.{room}
-use Rattle.dps_symeval.specs.Cases.{Choices}
+use Rattle.std.proofs.Common.{arith, subst, sym}
+use Rattle.dps_theory.specs.Theory.{Rule, IsBounded}
 use Rattle.dps_symeval.proofs.Reducing.{left_room, right_room}
 use Rattle.dps_symeval.proofs.narrowing.reduced.Goals as goal
 
 pub with_left-requires : goal.with_left-requires
 with_left-requires c =
-    let same : c.in_ok-next.next ≡ c.args.choice.now.next + room c.args.rule.now =
-    omega (arith, c.in_ok-next.ensures, ap (λ (x : Choices). x.next) c.choice.view_is, ap room c.rule.view_is) in
-    left_room c.args.rule.now c.args.choice.now.next c.in_ok-next.next same (omega arith)
+    let rule : Rule = record { left = c.rule.inside.left; right = c.rule.inside.right } in
+    left_room rule c.choice.inside.next c.in_ok-next.next c.in_ok-next.ensures (omega arith)
 
 pub rename-requires : goal.rename-requires
 rename-requires c =
-    let same : c.in_ok-next.next ≡ c.args.choice.now.next + room c.args.rule.now =
-    omega (arith, c.in_ok-next.ensures, ap (λ (x : Choices). x.next) c.choice.view_is, ap room c.rule.view_is) in
-    right_room c.args.rule.now c.args.choice.now.next c.in_ok-next.next c.requires same (omega arith)
+    let rule : Rule = record { left = c.rule.inside.left; right = c.rule.inside.right } in
+    right_room rule c.choice.inside.next c.in_ok-next.next (subst IsBounded (sym c.rule.view_is) c.requires) c.in_ok-next.ensures (omega arith)
