@@ -107,6 +107,9 @@ UNIFYING = {"last": "last", "first": "first", "variable": "variable", "doubled":
 # names of cases: a table without a stop, and one that stops at its last look
 EXPLORING = {"none": "none", "last": "last"}
 
+# names of cases: eight senders and receivers, a word of one input and one output in turn, and one of two and two
+SEMANTICS = {"settle": "settle", "word": "word", "doubled": "doubled"}
+
 folder = pathlib.Path(sys.argv[2])
-for name, text in {"lexing": LEXING, "reading": READING, "unifying": UNIFYING, "comparing": COMPARING, "ruled": RULED, "exploring": EXPLORING}[sys.argv[1]].items():
+for name, text in {"lexing": LEXING, "reading": READING, "unifying": UNIFYING, "comparing": COMPARING, "ruled": RULED, "exploring": EXPLORING, "semantics": SEMANTICS}[sys.argv[1]].items():
     (folder / f"{name}.txt").write_text(text)
