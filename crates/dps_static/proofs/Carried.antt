@@ -11,48 +11,6 @@ use Rattle.dps_static.specs.Telling.{IsLost, Passes, IsUseTest, AllUsesPass, IsT
 use Rattle.dps_static.specs.declared.uses.RuleUse.{RuleUse}
 use Rattle.dps_static.specs.declared.Test.{Test}
 
--- the first n recipes have their values
-pub record AreValuesFirst (theory : Theory) (frame recipes values : List Tree) (n : ℕ) : Type 0 where
-  pub counted : length values ≡ n
-  pub are : (i : ℕ) (r v : Tree) → slice_get recipes i ≡ Some r → slice_get values i ≡ Some v → HasValue theory frame r v
-
-get_before : (ts : List Tree) (t : Tree) (k : ℕ) → k < length ts → slice_get (ts ++ t ∷ []) k ≡ slice_get ts k
-get_before [] t k h = absurd (omega (arith, h))
-get_before (u ∷ ts) t zero h = refl
-get_before (u ∷ ts) t (suc k) h = get_before ts t k (omega (arith, h))
-
-get_last : (ts : List Tree) (t : Tree) → slice_get (ts ++ t ∷ []) (length ts) ≡ Some t
-get_last [] t = refl
-get_last (u ∷ ts) t = get_last ts t
-
-length_further : (ts : List Tree) (t : Tree) → length (ts ++ t ∷ []) ≡ length ts + 1
-length_further [] t = refl
-length_further (u ∷ ts) t = omega (arith, length_further ts t)
-
-pub values_next :
-    (theory : Theory) (frame recipes values new : List Tree) (r v : Tree) (n : ℕ) → slice_get recipes n ≡ Some r → new ≡ values ++ v ∷ []
-    → HasValue theory frame r v → AreValuesFirst theory frame recipes values n → AreValuesFirst theory frame recipes new (n + 1)
-values_next theory frame recipes values new r v n e is here first = subst (λ vs. AreValuesFirst theory frame recipes vs (n + 1)) (sym is) (record {
-  counted = omega (arith, length_further values v, first.counted);
-  are = λ i s w d g.
-      let l = slice_get_within (values ++ v ∷ []) i w g in
-      at i s w d g (cases_lt i n) l;
-})
-  where
-    at : (i : ℕ) (s w : Tree) → slice_get recipes i ≡ Some s → slice_get (values ++ v ∷ []) i ≡ Some w → (i < n) ⊎ (n ≤ i) → i < length (values ++ v ∷ []) → HasValue theory frame s w
-    at i s w d g (inl h) l = first.are i s w d (sym (get_before values v i (omega (arith, h, first.counted))) ∙ g)
-    at i s w d g (inr h) l =
-        let same : i ≡ n = omega (arith, h, l, length_further values v, first.counted) in
-        let last : i ≡ length values = omega (arith, same, first.counted) in
-        let a : Some s ≡ Some r = sym d ∙ (ap (slice_get recipes) same ∙ e) in
-        let b : Some w ≡ Some v = sym g ∙ (ap (slice_get (values ++ v ∷ [])) last ∙ get_last values v) in
-        let x : r ≡ s = cc in
-        let y : v ≡ w = cc in
-        subst (λ q. HasValue theory frame q w) x (subst (HasValue theory frame r) y here)
-
-pub values_all : (theory : Theory) (frame recipes values : List Tree) (n : ℕ) → n ≡ length recipes → AreValuesFirst theory frame recipes values n → AreValuesOf theory frame recipes values
-values_all theory frame recipes values n e first = record { same_length = sym e ∙ sym first.counted; values = first.are }
-
 pub recipe_lost : (theory : Theory) (frame recipes : List Tree) (r copy : Tree) (n : ℕ) → slice_get recipes n ≡ Some r → copy ≡ r → (¬ Succeeds theory frame r) → IsLost theory frame recipes copy
 recipe_lost theory frame recipes r copy n e same fails = subst (IsLost theory frame recipes) (sym same) (record {
   listed = (n, slice_get_within recipes n r e, get_or_from_slice_get recipes n r r e);

@@ -1,4 +1,6 @@
 pub mod Ways
+pub mod Pushing
+pub mod Making
 pub mod Taking
 pub mod Following
 pub mod Frames

@@ -22,7 +22,8 @@ use Rattle.dps_static.proofs.Ways.{numbered-there}
 use Rattle.dps_static.proofs.Covering.{kept_built}
 use Rattle.dps_static.proofs.Frames.{length-handles, handle_at, handles_are_recipes}
 use Rattle.dps_static.proofs.Ending.{possible_listed, absent_lt}
-use Rattle.dps_static.proofs.PossibleTrees.{kept_push, length_push, known_more, use_possible, possible_plain, possible_low, possible_over}
+use Rattle.dps_static.proofs.Pushing.{kept_push, length_push}
+use Rattle.dps_static.proofs.PossibleTrees.{known_more, use_possible, possible_plain, possible_low, possible_over}
 use Rattle.dps_static.proofs.Used.{builds_later}
 
 pub grows_none : (theory : Theory) (recipes kept : List Tree) → Grows theory 0 recipes kept recipes kept

@@ -7,7 +7,7 @@ use Rattle.std.proofs.lemmas.Bool.{eq-eqb}
 use Rattle.dps_terms.specs.Tree.{Tree, node_count}
 use Rattle.dps_terms.specs.Digest.{digest}
 use Rattle.dps_static.specs.Places.{ArePlacesOf, IsPlaced, HasSize, AreSizesOf, IsSized}
-use Rattle.dps_static.proofs.PossibleTrees.{push_cases, length_push}
+use Rattle.dps_static.proofs.Pushing.{push_cases, length_push}
 
 lookup_kept : (places : List (ℕ × ℕ)) (p : ℕ × ℕ) (d k : ℕ) → lookup (nat_eq d) places ≡ Some k → lookup (nat_eq d) (places ++ p ∷ []) ≡ Some k
 lookup_kept [] p d k e = cc

@@ -31,6 +31,7 @@ use Rattle.dps_static.specs.Binding.{IsPartOf, BindsParts}
 use Rattle.dps_static.specs.Saturation.{own_name, IsCleanFrame, AreValuesOf, IsCommonSignature, IsPossible, AreKnown}
 use Rattle.dps_static.specs.Ending.{GivesNew}
 use Rattle.dps_static.proofs.Ways.{AreOpenWays, put_all, numbered-there, IsAppWay, composed_app}
+use Rattle.dps_static.proofs.Pushing.{kept_push, length_push, push_cases, values_push}
 use Rattle.dps_static.proofs.Covering.{built_public, built_rigid, filled_stays}
 use Rattle.dps_static.proofs.Stepping.{put_filled, put_all_filled}
 use Rattle.dps_static.proofs.Opening.{newly, way_of, ways_of}
@@ -165,33 +166,6 @@ rule_leaf_low (rigid n) h = absurd h
 
 any_leaf : (x : Leaf) → IsName x → AnyLeaf x
 any_leaf x h = tt
-
--- trees that stay in order when one more is added
-pub kept_push : (xs : List Tree) (y : Tree) (k : ℕ) (t : Tree) → slice_get xs k ≡ Some t → slice_get (xs ++ y ∷ []) k ≡ Some t
-kept_push [] y k t e = absurd (none-some t e)
-kept_push (x ∷ xs) y zero t e = e
-kept_push (x ∷ xs) y (suc k) t e = kept_push xs y k t e
-
-pub record IsLast (xs : List Tree) (y : Tree) (k : ℕ) (t : Tree) : Type 0 where
-  pub place : k ≡ length xs
-  pub is : y ≡ t
-
-one_only : (y t : Tree) (k : ℕ) → slice_get (y ∷ []) k ≡ Some t → IsLast [] y k t
-one_only y t zero e = let m : y ≡ t = cc in record { place = refl; is = m }
-one_only y t (suc k) e = absurd (none-some t e)
-
-pub push_cases : (xs : List Tree) (y : Tree) (k : ℕ) (t : Tree) → slice_get (xs ++ y ∷ []) k ≡ Some t → (slice_get xs k ≡ Some t) ⊎ IsLast xs y k t
-push_cases [] y k t e = inr (one_only y t k e)
-push_cases (x ∷ xs) y zero t e = inl e
-push_cases (x ∷ xs) y (suc k) t e =
-    elim (push_cases xs y k t e) [
-      | inl m ↦ inl m
-      | inr l ↦ inr (record { place = omega (arith, l.place); is = l.is })
-    ]
-
-pub length_push : (xs : List Tree) (y : Tree) → length (xs ++ y ∷ []) ≡ suc (length xs)
-length_push [] y = refl
-length_push (x ∷ xs) y = omega (arith, length_push xs y)
 
 -- names for rigid names
 zero_plus : (k : ℕ) → k ≡ 0 + k
@@ -377,24 +351,6 @@ module _ (theory : Theory) (accepted : IsAccepted theory) (plain : HasPlainRules
             | inl h ↦ possible k t h
             | inr l ↦ subst (IsPossible theory frame) l.is new_possible
           ];
-      values = λ clean. values_push clean (known.values clean);
+      values = λ clean. let values = known.values clean in values_push theory frame recipes kept r v (use_value clean values) values;
       are_recipes = λ signature c. All-push (IsRecipe signature (length frame)) recipes r (known.are_recipes signature c) (use_recipe signature c known.same_length (known.are_recipes signature c));
     }
-      where
-        values_push : IsCleanFrame theory frame → AreValuesOf theory frame recipes kept → AreValuesOf theory frame (recipes ++ r ∷ []) (kept ++ v ∷ [])
-        values_push clean values = record {
-          same_length = length_push recipes r ∙ (ap suc values.same_length ∙ sym (length_push kept v));
-          values = λ i q w a b.
-              elim (push_cases recipes r i q a) [
-                | inl h ↦
-                    elim (push_cases kept v i w b) [
-                      | inl k ↦ values.values i q w h k
-                      | inr l ↦ absurd (let s = slice_get_within recipes i q h in let p = l.place in omega (arith, s, p, values.same_length))
-                    ]
-                | inr l ↦
-                    elim (push_cases kept v i w b) [
-                      | inl k ↦ absurd (let s = slice_get_within kept i w k in let p = l.place in omega (arith, s, p, values.same_length))
-                      | inr m ↦ subst (λ x. HasValue theory frame x w) l.is (subst (λ x. HasValue theory frame r x) m.is (use_value clean values))
-                    ]
-              ];
-        }

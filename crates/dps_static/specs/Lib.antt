@@ -4,6 +4,7 @@ pub mod Places
 pub mod Follows
 pub mod Passing
 pub mod Handles
+pub mod Made
 pub mod Answer
 pub mod Generic
 pub mod Binding

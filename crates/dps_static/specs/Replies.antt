@@ -11,10 +11,11 @@ use Rattle.dps_static.specs.declared.uses.NewTree.{NewTree}
 use Rattle.dps_static.specs.declared.uses.Reply.{Reply}
 use Rattle.dps_static.specs.declared.uses.Reply.TheVariants.{Waits, Uses, Gives}
 
--- A tree that the rule gives with s and that is not built from the kept ones, and its recipe. Where a rigid name stands in
--- the way, an attacker's name stands in the recipe.
+-- A tree that the rule gives with s and that is not built from the kept ones, its recipe, and the way that makes it. Where a
+-- rigid name stands in the way that builds the left side, an attacker's name stands in the recipe.
 pub record IsNewTree (rule : Rule) (recipes kept : List Tree) (s : List (ℕ × Tree)) (new : NewTree) : Type 0 where
   pub composes : Composes kept (substitute (generic s) rule.left) new.left
+  pub way_is : new.way ≡ filled own_name new.left
   pub recipe_is : new.recipe ≡ put_entries recipes (filled own_name new.left)
   pub value_is : new.value ≡ substitute (generic s) rule.right
   pub is_new : ¬ IsBuilt kept new.value

@@ -18,6 +18,7 @@ mod expand;
 mod follow;
 mod instance;
 mod kept;
+mod lawful;
 pub mod laws;
 mod naming;
 mod pairing;
@@ -31,8 +32,9 @@ mod uses;
 
 use crate::build::way;
 use crate::expand::expanded;
+use crate::lawful::is_lawful;
 use crate::pairing::paired;
-use crate::refute::{is_lawful, refute};
+use crate::refute::refute;
 use crate::saturation::saturated;
 use dps_recipes::Frame;
 use dps_terms::{NoMemory, Term};

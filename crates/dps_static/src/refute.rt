@@ -1,10 +1,10 @@
 //! Tests that hold in one frame and fail in another.
 ghost use Rattle.std.specs.Prelude.{◌≡◌, ◌<◌, ◌^◌, IfOk, length};
-ghost use Rattle.dps_theory.specs.Theory.{IsAccepted, HasPlainRules};
 ghost use Rattle.dps_static.specs.Answer.{IsRefutation};
 
 use crate::Test;
 use crate::carry::{Carried, carry};
+use crate::lawful::is_lawful;
 use crate::passing::told;
 use crate::saturation::saturated;
 use dps_recipes::Frame;
@@ -25,19 +25,11 @@ pub(crate) fn refute(
 {
     is_lawful(theory);
     let knowledge = saturated(alloc, theory, &first.messages)?;
-    match carry(alloc, theory, second, &knowledge.recipes)? {
+    match carry(alloc, theory, second, &knowledge.recipes, &knowledge.ways)? {
         Carried::Lost(recipe) => Ok(Some(Test::Value(recipe))),
         Carried::Values(values) => {
             let found = told(alloc, theory, &knowledge, &values)?;
             Ok(found)
         }
     }
-}
-
-/// The theory is accepted, and its rules hold declared names and variables alone: what the proofs take from it.
-pub(crate) fn is_lawful(theory: &Theory)
-    ensures accepted { IsAccepted theory.now }
-    ensures plain { HasPlainRules theory.now }
-{
-    theory.rules();
 }

@@ -7,6 +7,7 @@ ghost use Rattle.dps_terms.specs.Tree.{leaf, entry};
 ghost use Rattle.dps_theory.specs.Theory.{IsAccepted, HasPlainRules};
 ghost use Rattle.dps_static.specs.Uses.{AreUsesOf};
 ghost use Rattle.dps_static.specs.Asking.{AreAsked, IsAskedAt, IsUnasked, UsesGrow, GrowsOrIsUsedUp, GrowsOrAreUsedUp};
+ghost use Rattle.dps_static.specs.Made.{AreMade, StayMade};
 ghost use Rattle.dps_static.specs.Saturation.{IsSaturation};
 
 use crate::expand::handles;
@@ -17,10 +18,12 @@ use dps_terms::{NoMemory, Subst, Term};
 use dps_theory::Theory;
 use std::alloc::Global;
 
-/// Recipes over a frame, their values, which are the kept trees, and the uses of the rules over these.
+/// Recipes over a frame, the ways that make each of those before it, their values, which are the kept trees, and the uses of
+/// the rules over these.
 #[derive(Drop)]
 pub(crate) struct Knowledge {
     pub(crate) recipes: Vec<Term>,
+    pub(crate) ways: Vec<Term>,
     pub(crate) kept: Kept,
     pub(crate) uses: Vec<RuleUse>,
 }
@@ -51,10 +54,12 @@ fn nothing_asked(alloc: Global, count: usize) -> Result<Vec<Asked>, NoMemory>
 /// Keeps the tree. It is the entry of its own place, so the rule has its use.
 fn keep(alloc: Global, knowledge: &mut Knowledge, new: NewTree) -> Result<(), NoMemory>
     ensures recipes { OnOk result (knowledge.new.recipes.items ≡ knowledge.old.recipes.items ++ new.recipe ∷ []) }
+    ensures ways { OnOk result (knowledge.new.ways.items ≡ knowledge.old.ways.items ++ new.way ∷ []) }
     ensures kept { OnOk result (knowledge.new.kept ≡ knowledge.old.kept ++ new.value ∷ []) }
     ensures uses { OnOk result (knowledge.new.uses.items ≡ knowledge.old.uses.items ++ record { left = new.left; right = leaf (entry (suc (length knowledge.old.kept))) } ∷ []) }
 {
     knowledge.recipes.push(new.recipe)?;
+    knowledge.ways.push(new.way)?;
     knowledge.kept.push(new.value.whole())?;
     let right = Term::entry(alloc, knowledge.kept.len() as u64)?;
     knowledge.uses.push(RuleUse {
@@ -76,6 +81,7 @@ fn use_rule(
     requires place { place < length theory.now.rules }
     requires asked { IsAskedAt theory.now.rules place knowledge.now.kept knowledge.now.uses.items asked.now }
     ensures asked { IfOk result (λ _. IsAskedAt theory.now.rules place knowledge.new.kept knowledge.new.uses.items asked.new) }
+    ensures made { IfOk result (λ _. StayMade knowledge.old.recipes.items knowledge.old.ways.items knowledge.new.recipes.items knowledge.new.ways.items) }
     ensures uses { IfOk result (λ _. UsesGrow theory.now knowledge.old.kept knowledge.old.uses.items knowledge.new.kept knowledge.new.uses.items) }
     ensures more { IfOk result (λ more. GrowsOrIsUsedUp theory.now place more knowledge.old.recipes.items knowledge.old.kept knowledge.new.recipes.items knowledge.new.kept knowledge.new.uses.items) }
 {
@@ -108,6 +114,7 @@ fn use_rules(
     ensures accepted { IfOk result (λ _. IsAccepted theory.now) }
     ensures plain { IfOk result (λ _. HasPlainRules theory.now) }
     ensures asked { IfOk result (λ _. AreAsked theory.now.rules knowledge.new.kept knowledge.new.uses.items asked.new.items) }
+    ensures made { IfOk result (λ _. StayMade knowledge.old.recipes.items knowledge.old.ways.items knowledge.new.recipes.items knowledge.new.ways.items) }
     ensures uses { IfOk result (λ _. UsesGrow theory.now knowledge.old.kept knowledge.old.uses.items knowledge.new.kept knowledge.new.uses.items) }
     ensures more { IfOk result (λ more. GrowsOrAreUsedUp theory.now more knowledge.old.recipes.items knowledge.old.kept knowledge.new.recipes.items knowledge.new.kept knowledge.new.uses.items) }
 {
@@ -128,12 +135,15 @@ pub(crate) fn saturated(
 ) -> Result<Knowledge, NoMemory>
     requires { length frame.now < 2 ^ 32 }
     ensures saturation { IfOk result (λ k. IsSaturation theory.now frame.now k.recipes.items k.kept) }
+    ensures made { IfOk result (λ k. AreMade k.recipes.items k.ways.items) }
     ensures uses { IfOk result (λ k. AreUsesOf theory.now k.kept k.uses.items) }
 {
     let recipes = handles(alloc, frame.len() as u32)?;
+    let ways = handles(alloc, frame.len() as u32)?;
     let kept = kept_of(alloc, frame)?;
     let mut knowledge = Knowledge {
         recipes,
+        ways,
         kept,
         uses: Vec::new(alloc),
     };

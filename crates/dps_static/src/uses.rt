@@ -17,10 +17,12 @@ pub(crate) struct RuleUse {
     pub(crate) right: Term,
 }
 
-/// A tree that a rule gives and that is not built from the kept ones, its recipe, and the way that builds the left side.
+/// A tree that a rule gives and that is not built from the kept ones, its recipe, the way that makes it of theirs, and the
+/// way that builds the left side, with rigid names.
 #[derive(Drop)]
 pub(crate) struct NewTree {
     pub(crate) left: Term,
+    pub(crate) way: Term,
     pub(crate) recipe: Term,
     pub(crate) value: Term,
 }
@@ -54,10 +56,11 @@ pub(crate) fn ask(
     match way(alloc, kept, value.whole())? {
         Some(right) => Ok(Reply::Uses(RuleUse { left, right })),
         None => {
-            let closed = named(alloc, left.whole())?;
-            let recipe = expanded(alloc, recipes, closed.whole())?;
+            let way = named(alloc, left.whole())?;
+            let recipe = expanded(alloc, recipes, way.whole())?;
             Ok(Reply::Gives(NewTree {
                 left,
+                way,
                 recipe,
                 value,
             }))
