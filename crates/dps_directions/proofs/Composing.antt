@@ -137,11 +137,6 @@ name_among y n (suc k) l m = elim (same_number n y) [
     next_le : (i j : ℕ) → i ≤ j → i ≢ j → i + 1 ≤ j
     next_le i j a d = elim (le_or_gt j i) [ inl b ↦ absurd (d (omega (arith, a, b))) | inr b ↦ omega (arith, b) ]
 
-among_names : (y n k : ℕ) → IsAmong (leaf (var y)) (names_as_trees n k) → (n ≤ y) × (y < n + k)
-among_names y n zero h = elim h [ ]
-among_names y n (suc k) (in_first h) = let e = same_var y n (in_leaf (var n) (leaf (var y)) h) in (omega (arith, e), omega (arith, e))
-among_names y n (suc k) (in_rest h) = let r = among_names y (n + 1) k h in (omega (arith, r.0), omega (arith, r.1))
-
 -- which of the arguments has a number
 numbered_kid : (z : Target) (n : ℕ) (ts : List Tree) (y : ℕ) → n ≤ y → y < n + length ts → (x : Target) × Contains (kids z n ts) x × (x.name ≡ y) × (x.level ≡ z.level)
 numbered_kid z n [] y l m = absurd (omega (arith, l, m))
@@ -243,9 +238,6 @@ module _ (scene : Scene) (ask : Ask) (b : Branch) (z : Target) (rest : List Targ
   open_new : (y : ℕ) → b.next ≤ y → y < b.next + size → IsOpen next y z.level
   open_new y l m = let k = numbered_kid z b.next (arguments t) y l m in inl (k.0, in_left k.0 (kids z b.next (arguments t)) rest k.1, k.2, k.3)
 
-  z_low : z.name < b.next
-  z_low = kept.below_next z.name z.level (inl (z, first, refl, refl))
-
   -- the composed tree means the target's term
   leaves_at : (u : Tree) → IsComposable scene.system.m z.level u → u ≡ t → IsBuiltOf (IsBuiltLeaf scene next z.level) AnySymbol (root_over u (range_with_len b.next size))
   leaves_at (leaf (public n)) r e = tt
@@ -304,9 +296,6 @@ module _ (scene : Scene) (ask : Ask) (b : Branch) (z : Target) (rest : List Targ
 
   stands_new : (y x : ℕ) → b.next ≤ y → y < b.next + size → StandsIn (var z.name) (b.trees x) → StandsIn (var y) (substitute p (b.trees x))
   stands_new y x l m c = nested (in_tree t y l m) (subst (λ u. IsSubterm u (substitute p (b.trees x))) (here z.name tree) (keeps_subterms (variables_to p) c))
-
-  Least : ℕ → ℕ → Type 0
-  Least y l = (x k : ℕ) × (level_of scene.system.levels x ≡ Some k) × StandsIn (var y) (next.trees x) × (k ≤ l)
 
   least_now : (y l : ℕ) → IsOpen next y l → IsInBindings scene next y → (x k : ℕ) × (level_of scene.system.levels x ≡ Some k) × StandsIn (var y) (next.trees x) × (k ≤ l)
   least_now y l o i = elim (open_cases_now y l o) [

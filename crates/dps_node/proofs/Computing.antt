@@ -52,12 +52,6 @@ module _ (names : ℕ → Type 0) (theory : Theory) (node : Node) (c : SymbolicC
   are_plain [] k = tt
   are_plain (t ∷ ts) k = ((All-head (λ t. IsMessageUnder theory node z t) t ts k).plain, are_plain ts (All-tail (λ t. IsMessageUnder theory node z t) t ts k))
 
-  are_below : (ts : List Tree) → All (λ t. IsMessageUnder theory node z t) ts → All (Below (first_free node)) ts
-  are_below [] k = All-nil (Below (first_free node))
-  are_below (t ∷ ts) k =
-      let first = All-head (λ t. IsMessageUnder theory node z t) t ts k in
-      All-cons (Below (first_free node)) t ts (λ x m. let l = first.known x m in is_before_new node x l.0 l.1) (are_below ts (All-tail (λ t. IsMessageUnder theory node z t) t ts k))
-
   module _ (f : Sym) (values : List Tree) (shape : HasShape theory.shapes Destructor f (length values)) (messages : All (λ t. IsMessageUnder theory node z t) values) where
     there : HasShape theory.shapes Destructor f (count (trees (map (substitute z) values)))
     there = subst (HasShape theory.shapes Destructor f) (sym (count_mapped (substitute z) values)) shape

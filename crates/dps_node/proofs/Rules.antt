@@ -152,9 +152,6 @@ module _ (problem : Problem) where
   acts_or_through node o (knows b c k) t = true_is_no_false node.closed t.closed c
   acts_or_through node o (mixes_next b c d k) t = d t.mixed
 
-  same_changed : (a b : Node) → SameOutcome (changed a) (changed b) → a ≡ b
-  same_changed a b h = h
-
   -- each expansion of a node takes the same number of steps
   pub expands_once : {node : Node} {n m : ℕ} {ks ls : List Node} → Expands problem node n ks → Expands problem node m ls → n ≡ m
   expands_once (changes {node = node} {other = a} h t) (changes {other = b} {n = m} {ks = ls} h' t') =

@@ -51,9 +51,6 @@ module _ (names : ℕ → Type 0) (node : Node) (c : SymbolicConfig) (t : Tree) 
   abbrev fill : ℕ → ℕ → Tree
   fill n = filling names node c (tree node t) s g under n
 
-  abbrev Fits : (ℕ → Tree) → (ℕ → Tree) → Target → Tree → Type 0
-  Fits eta a w u = IsGroundUpTo AnyRigidName node.m node.know w.level u × (put_entries g u ≡ substitute eta w.term)
-
   -- the one answer is the tree
   found_is : (eta a : ℕ → Tree) (answers : List Tree) → AllZip (λ (w : Target) u. IsGroundUpTo AnyRigidName node.m node.know w.level u × (put_entries g u ≡ substitute eta w.term)) (target ∷ []) (map (substitute a) answers) → (u : Tree) × (answers ≡ u ∷ []) × IsGroundUpTo AnyRigidName node.m node.know node.m (substitute a u) × (put_entries g (substitute a u) ≡ substitute eta t)
   found_is eta a [] h = absurd h
