@@ -17,7 +17,7 @@ pub unreachable-requires : goal.unreachable-requires
 unreachable-requires c =
     let w = c.args.worker in
     let h = subst (λ (x : Ledger). (ticket : ℕ) × (path : List ℕ) × Holds x w ticket path) (sym c.self.view_is) c.requires in
-    let e : slice_get c.self.inside.holds.items w ≡ Some (Some h.0) = holds-place (the_view c.self.inside) c.self.inside.holds.items w h.0 h.1 c.self.invariant.holding h.2 in
+    let e : slice_get c.self.inside.holds.items w ≡ Some (Some h.0) = holds-place (the_view c.self.inside) c.self.inside.holds.items w h.0 h.1 c.self.invariant.0.holding h.2 in
     let f : c.held_by.result ≡ Some h.0 = (c.held_by.ensures h.0).1 (ap (λ (x : List (Option ℕ)). slice_get x w) c.deref.ensures.value ∙ e) in
     cc
 
@@ -26,7 +26,7 @@ index-requires c =
     let w = c.args.worker in
     let t = c.in-Some.ticket in
     let mine : slice_get c.self.inside.holds.items w ≡ Some (Some t) = ap (λ (x : List (Option ℕ)). slice_get x w) (sym c.deref.ensures.value) ∙ (c.held_by.ensures t).0 c.in-Some.is in
-    let m = c.self.invariant.holding.marked w t mine in
+    let m = c.self.invariant.0.holding.marked w t mine in
     omega (arith, slice_get_within c.self.inside.rows.items t m.0 m.1, c.self.inside.rows.ok)
 
 pub post_late-requires : goal.post_late-requires
@@ -34,7 +34,7 @@ post_late-requires c =
     let t = c.in-Some.ticket in
     let w = c.args.worker in
     let mine : slice_get c.self.inside.holds.items w ≡ Some (Some t) = ap (λ (x : List (Option ℕ)). slice_get x w) (sym c.deref.ensures.value) ∙ (c.held_by.ensures t).0 c.in-Some.is in
-    let m = c.self.invariant.holding.marked w t mine in
+    let m = c.self.invariant.0.holding.marked w t mine in
     let same : c.index.result.now ≡ m.0 = c.index.ensures ∙ get_or_from_slice_get c.self.inside.rows.items t m.0 c.index.result.now m.1 in
     let mark : m.0.mark ≡ DroppedHeld w = ap (λ (r : Row). r.mark) (sym same) ∙ c.is_dropped_held_by.ensures.0 c.if-is_dropped_held_by.true in
     subst (λ (x : Ledger). HasMark x t (DroppedHeld w)) c.self.view_is (m.0.path, m.1 ∙ ap (λ (x : Mark). Some (row m.0.path x)) mark)
@@ -44,7 +44,7 @@ returns-then-is_dropped_held_by-clause-done c = λ ticket path h.
     let t = c.in-Some.ticket in
     let w = c.args.worker in
     let holds = c.self.inside.holds.items in
-    let k = c.self.invariant.holding in
+    let k = c.self.invariant.0.holding in
     let mine : slice_get holds w ≡ Some (Some t) = ap (λ (x : List (Option ℕ)). slice_get x w) (sym c.deref.ensures.value) ∙ (c.held_by.ensures t).0 c.in-Some.is in
     let m = k.marked w t mine in
     let same : c.index.result.now ≡ m.0 = c.index.ensures ∙ get_or_from_slice_get c.self.inside.rows.items t m.0 c.index.result.now m.1 in
@@ -59,7 +59,7 @@ post_kids-requires c =
     let t = c.in-Some.ticket in
     let w = c.args.worker in
     let mine : slice_get c.self.inside.holds.items w ≡ Some (Some t) = ap (λ (x : List (Option ℕ)). slice_get x w) (sym c.deref.ensures.value) ∙ (c.held_by.ensures t).0 c.in-Some.is in
-    let m = c.self.invariant.holding.marked w t mine in
+    let m = c.self.invariant.0.holding.marked w t mine in
     let same : c.index.result.now ≡ m.0 = c.index.ensures ∙ get_or_from_slice_get c.self.inside.rows.items t m.0 c.index.result.now m.1 in
     let other = λ (e : m.0.mark ≡ DroppedHeld w). let clash : true ≡ false = sym (c.is_dropped_held_by.ensures.1 (ap (λ (r : Row). r.mark) same ∙ e))
     ∙ c.if-is_dropped_held_by.false in let none : ⊥ = cc in none in
@@ -70,7 +70,7 @@ post_stop-requires c =
     let t = c.in-Some.ticket in
     let w = c.args.worker in
     let mine : slice_get c.self.inside.holds.items w ≡ Some (Some t) = ap (λ (x : List (Option ℕ)). slice_get x w) (sym c.deref.ensures.value) ∙ (c.held_by.ensures t).0 c.in-Some.is in
-    let m = c.self.invariant.holding.marked w t mine in
+    let m = c.self.invariant.0.holding.marked w t mine in
     let same : c.index.result.now ≡ m.0 = c.index.ensures ∙ get_or_from_slice_get c.self.inside.rows.items t m.0 c.index.result.now m.1 in
     let other = λ (e : m.0.mark ≡ DroppedHeld w). let clash : true ≡ false = sym (c.is_dropped_held_by.ensures.1 (ap (λ (r : Row). r.mark) same ∙ e))
     ∙ c.if-is_dropped_held_by.false in let none : ⊥ = cc in none in
@@ -81,7 +81,7 @@ returns-in_ok-first-in-Kids-clause-done c = λ ticket path h.
     let t = c.in-Some.ticket in
     let w = c.args.worker in
     let holds = c.self.inside.holds.items in
-    let k = c.self.invariant.holding in
+    let k = c.self.invariant.0.holding in
     let mine : slice_get holds w ≡ Some (Some t) = ap (λ (x : List (Option ℕ)). slice_get x w) (sym c.deref.ensures.value) ∙ (c.held_by.ensures t).0 c.in-Some.is in
     let m = k.marked w t mine in
     let same : c.index.result.now ≡ m.0 = c.index.ensures ∙ get_or_from_slice_get c.self.inside.rows.items t m.0 c.index.result.now m.1 in
@@ -98,7 +98,7 @@ returns-in-Stop-clause-done c = λ ticket path h.
     let t = c.in-Some.ticket in
     let w = c.args.worker in
     let holds = c.self.inside.holds.items in
-    let k = c.self.invariant.holding in
+    let k = c.self.invariant.0.holding in
     let mine : slice_get holds w ≡ Some (Some t) = ap (λ (x : List (Option ℕ)). slice_get x w) (sym c.deref.ensures.value) ∙ (c.held_by.ensures t).0 c.in-Some.is in
     let m = k.marked w t mine in
     let same : c.index.result.now ≡ m.0 = c.index.ensures ∙ get_or_from_slice_get c.self.inside.rows.items t m.0 c.index.result.now m.1 in
