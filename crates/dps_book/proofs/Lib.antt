@@ -8,3 +8,4 @@ pub mod Cutting
 pub mod Lines
 pub mod Stops
 pub mod Kids
+pub mod Starting

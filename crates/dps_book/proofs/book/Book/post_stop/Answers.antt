@@ -62,6 +62,17 @@ drop_behind-dropped-requires c =
       leads = (k.behind, leads-suffix next k.front (t ∷ k.behind) k.leads, once-suffix k.front (t ∷ k.behind) k.once);
     }
 
+pub overflow_sub-self-2 : goal.overflow_sub-self-2
+overflow_sub-self-2 c =
+    let rows = c.self.inside.rows.items in
+    let w = c.args.worker in
+    let t = c.args.ticket in
+    let h : HasMark (the_view c.self.inside) t (Held w) = subst (λ (x : Ledger). HasMark x t (Held w)) (sym c.self.view_is) c.requires in
+    let same : c.index_mut.result.now ≡ row h.0 (Held w) = c.index_mut.ensures.value ∙ get_or_from_slice_get rows t (row h.0 (Held w)) c.index_mut.result.now h.1 in
+    let is : IsCut (with_mark rows t h.0 Posted) c.self.inside.next.items t c.drop_behind-dropped.new.rows.items c.drop_behind-dropped.new.next.items c.drop_behind-dropped.result =
+    cut_at rows c.drop_behind-dropped.new.rows.items c.self.inside.next.items c.drop_behind-dropped.new.next.items t w c.drop_behind-dropped.result h.0 c.index_mut.result.now same c.drop_behind-dropped.ensures in
+    omega (arith, is.counts, opens-set rows t (row h.0 (Held w)) (row h.0 Posted) h.1, c.self.invariant.0.counted)
+
 pub invariant_of-self : goal.invariant_of-self
 invariant_of-self c =
     let rows = c.self.inside.rows.items in
