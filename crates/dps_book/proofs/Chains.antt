@@ -1,11 +1,11 @@
 -- Chains of tickets: what stands in them, and how links that change lead on.
-use Rattle.std.proofs.Common.{◌≡◌, ℕ, zero, suc, ◌+◌, ◌<◌, ◌≤◌, List, [], ◌∷◌, ◌++◌, length, Option, Some, None, refl, ap, ◌∙◌, sym, subst, ◌⊎◌, inl, inr, arith, append_assoc}
-use Rattle.std.specs.Prelude.{slice_get, slice_set}
+use Rattle.std.proofs.Common.{◌≡◌, ℕ, ◌+◌, ◌<◌, ◌≤◌, List, [], ◌∷◌, ◌++◌, length, Option, Some, None, refl, ap, ◌∙◌, sym, subst, ◌⊎◌, inl, inr, arith}
+use Rattle.std.specs.Prelude.{slice_get}
 use Rattle.std.proofs.lemmas.Bool.{cases_eq, cases_lt}
 use Rattle.std.proofs.lemmas.Bool.Decides.{nat_tests}
 use Rattle.std.proofs.lemmas.Option.{same_Some, none-some, slice_get_within}
-use Rattle.dps_core.specs.Pool.{times, tickets}
-use Rattle.dps_core.proofs.Lists.{times-append, times-tickets_below, times-tickets_once, times-tickets_there, tickets-next}
+use Rattle.dps_core.specs.Pool.{times}
+use Rattle.dps_core.proofs.Lists.{times-append}
 use Rattle.dps_book.specs.InOrder.{first_of, Leads, AreOnce}
 
 pub times-here : (t : ℕ) (xs : List ℕ) → times t (t ∷ xs) ≡ 1 + times t xs

@@ -1,5 +1,5 @@
 -- What is behind a ticket, dropped one after another.
-use Rattle.std.proofs.Common.{◌≡◌, ℕ, zero, suc, ◌+◌, ◌<◌, ◌≤◌, List, [], ◌∷◌, ◌++◌, length, map, Option, Some, None, Bool, true, false, cond, refl, ap, ◌∙◌, sym, subst, ◌⊎◌, inl, inr, arith, append_assoc}
+use Rattle.std.proofs.Common.{◌≡◌, ℕ, zero, suc, ◌+◌, ◌≤◌, List, [], ◌∷◌, ◌++◌, length, Option, Some, None, Bool, false, cond, refl, ap, ◌∙◌, sym, subst, ◌⊎◌, inl, inr, arith, append_assoc}
 use Rattle.std.specs.Prelude.{slice_get, slice_set}
 use Rattle.std.proofs.Math.ListN.{length-set}
 use Rattle.std.proofs.lemmas.List.{append-nil}
@@ -13,7 +13,7 @@ use Rattle.dps_core.specs.Pool.{times}
 use Rattle.dps_core.proofs.Lists.{set-at, set-other, times-append}
 use Rattle.dps_book.specs.Right.{opens}
 use Rattle.dps_book.specs.InOrder.{first_of, Leads, AreOnce, dropped_at, dropped_all, IsCut}
-use Rattle.dps_book.proofs.Chains.{times-here, times-there, times-more, times-split, once-front, once-behind, once-suffix, leads-suffix, leads-keep, first-none, first-some, differs}
+use Rattle.dps_book.proofs.Chains.{times-here, times-there, times-more, times-split, once-behind, leads-keep, first-none, first-some, differs}
 
 pub at-here : (rows : List Row) (t : ℕ) (r : Row) → slice_get rows t ≡ Some r → slice_get (dropped_at rows t) t ≡ Some (row r.path (drop_mark r.mark))
 at-here [] t r e = absurd (none-some r e)

@@ -1,22 +1,21 @@
 -- The chain after kids.
-use Rattle.std.proofs.Common.{◌≡◌, ℕ, zero, suc, ◌+◌, ◌<◌, ◌≤◌, List, [], ◌∷◌, ◌++◌, length, Option, Some, None, Bool, true, false, cond, refl, ap, ◌∙◌, sym, subst, ◌⊎◌, inl, inr, arith, length-append}
-use Rattle.std.specs.Prelude.{slice_get, slice_set}
+use Rattle.std.proofs.Common.{◌≡◌, ℕ, zero, suc, ◌+◌, ◌<◌, ◌≤◌, List, [], ◌∷◌, ◌++◌, length, Option, Some, Bool, true, false, refl, ap, ◌∙◌, sym, subst, ◌⊎◌, inl, inr, arith, length-append}
+use Rattle.std.specs.Prelude.{slice_get}
 use Rattle.std.proofs.Math.ListN.{length-set}
-use Rattle.std.proofs.lemmas.Bool.{cases_eq, cases_lt}
+use Rattle.std.proofs.lemmas.Bool.{cases_lt}
 use Rattle.std.proofs.lemmas.Bool.Decides.{nat_tests}
 use Rattle.std.proofs.lemmas.Option.{slice_get_within, same_Some}
 use Rattle.dps_branch.specs.declared.kind.StopKind.{StopKind}
 use Rattle.dps_path.specs.Order.{before, is_prefix}
 use Rattle.dps_path.proofs.Orders.{before-trans, before-longer, before-child}
-use Rattle.dps_core.specs.declared.event.Mark.{Mark}
-use Rattle.dps_core.specs.declared.event.Mark.TheVariants.{Open, Held, Posted}
+use Rattle.dps_core.specs.declared.event.Mark.TheVariants.{Held, Posted}
 use Rattle.dps_core.specs.declared.rows.Row.{Row}
 use Rattle.dps_core.specs.Book.{row, is_open, kids, with_mark}
 use Rattle.dps_core.specs.Pool.{times, tickets}
 use Rattle.dps_core.proofs.Books.{book_of, IsKept, Grown, old_row, new_row, grown}
-use Rattle.dps_core.proofs.Lists.{set-cases, set-at, append-left, length-kids, times-append, times-tickets_below, times-tickets_once, times-tickets_there, append-cases, kids-get}
-use Rattle.dps_book.specs.InOrder.{first_of, Leads, AreOnce, IsAhead, IsAheadOfAll, AreAscending, IsLine}
-use Rattle.dps_book.proofs.Chains.{times-here, times-there, times-more, times-split, once-behind, leads-past, leads-inside, differs}
+use Rattle.dps_core.proofs.Lists.{set-cases, set-at, append-left, length-kids, times-append, times-tickets_below, times-tickets_once, times-tickets_there, append-cases}
+use Rattle.dps_book.specs.InOrder.{Leads, AreOnce, IsAhead, AreAscending, IsLine}
+use Rattle.dps_book.proofs.Chains.{times-more, times-split, once-behind, leads-past, leads-inside, differs}
 use Rattle.dps_book.proofs.Linking.{left_of}
 use Rattle.dps_book.proofs.Lines.{IsAround, around, IsBackAt, mark_before, keep_ascending, insert_behind, behind-ticket, front-ticket, front-behind, ascending-suffix, all-of}
 

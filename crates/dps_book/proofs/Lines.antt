@@ -1,24 +1,18 @@
 -- The chain of a book, through each of its calls.
-use Rattle.std.proofs.Common.{◌≡◌, ℕ, zero, suc, ◌+◌, ◌<◌, ◌≤◌, List, [], ◌∷◌, ◌++◌, length, map, Option, Some, None, Bool, true, false, cond, refl, ap, ◌∙◌, sym, subst, ◌⊎◌, inl, inr, arith}
-use Rattle.std.proofs.Common.{length-append}
-use Rattle.std.specs.Prelude.{slice_get, slice_set}
+use Rattle.std.proofs.Common.{◌≡◌, ℕ, zero, suc, ◌<◌, ◌≤◌, List, [], ◌∷◌, ◌++◌, length, Option, Some, None, true, refl, ap, ◌∙◌, sym, subst, ◌⊎◌, inl, inr, arith}
+use Rattle.std.specs.Prelude.{slice_get}
 use Rattle.std.proofs.Math.ListN.{length-set}
-use Rattle.std.proofs.lemmas.List.{length-map}
 use Rattle.std.proofs.lemmas.Bool.{cases_eq, cases_lt}
-use Rattle.std.proofs.lemmas.Option.{same_Some, none-some}
-use Rattle.dps_branch.specs.declared.kind.StopKind.{StopKind}
-use Rattle.dps_path.specs.Order.{before, is_prefix}
-use Rattle.dps_path.proofs.Orders.{before-self, before-trans, before-longer, before-child}
+use Rattle.std.proofs.lemmas.Option.{none-some}
+use Rattle.dps_path.specs.Order.{before}
 use Rattle.dps_core.specs.declared.event.Mark.{Mark}
-use Rattle.dps_core.specs.declared.event.Mark.TheVariants.{Open, Held, Posted, Dropped, DroppedHeld}
+use Rattle.dps_core.specs.declared.event.Mark.TheVariants.{Open}
 use Rattle.dps_core.specs.declared.rows.Row.{Row}
-use Rattle.dps_core.specs.Book.{Book, row, is_open, drop_mark, dropped_after, kids, with_mark}
-use Rattle.dps_core.specs.Pool.{times, tickets}
-use Rattle.dps_core.proofs.Books.{IsKept, IsLater, Grown, old_row, new_row, grown, stopped, left_open}
-use Rattle.dps_core.proofs.Lists.{set-cases, set-at, map-cases, map-at, append-left, kids-get, length-kids, times-append, times-tickets_below, times-tickets_once, times-tickets_there}
-use Rattle.dps_book.specs.InOrder.{first_of, Leads, AreOnce, IsAhead, IsAheadOfAll, AreAscending, IsLine, dropped_at, dropped_all, IsCut}
-use Rattle.dps_book.proofs.Chains.{times-here, times-there, times-more, times-split, split-at, once-front, once-behind, leads-suffix, leads-past, leads-keep, leads-front, leads-same, leads-inside, differs}
-use Rattle.dps_book.proofs.Cutting.{dropped-in, dropped-out}
+use Rattle.dps_core.specs.Book.{row, is_open, with_mark}
+use Rattle.dps_core.specs.Pool.{times}
+use Rattle.dps_core.proofs.Lists.{set-cases, times-append}
+use Rattle.dps_book.specs.InOrder.{Leads, AreOnce, IsAhead, IsAheadOfAll, AreAscending, IsLine}
+use Rattle.dps_book.proofs.Chains.{times-here, times-there, times-more, times-split, split-at}
 
 ahead_or : (rows : List Row) (t u x : ℕ) (xs : List ℕ) → IsAhead rows t x → (1 ≤ times u xs → IsAhead rows t u) → 1 ≤ times u (x ∷ xs) → (x ≡ u) ⊎ (x ≡ u → ⊥) → IsAhead rows t u
 ahead_or rows t u x xs a more h (inl e) = subst (IsAhead rows t) e a

@@ -1,6 +1,6 @@
 -- The chain after a stop, and what the stop drops.
-use Rattle.std.proofs.Common.{◌≡◌, ℕ, zero, suc, ◌+◌, ◌<◌, ◌≤◌, List, [], ◌∷◌, ◌++◌, length, map, Option, Some, None, Bool, true, false, cond, refl, ap, ◌∙◌, sym, subst, ◌⊎◌, inl, inr, arith}
-use Rattle.std.specs.Prelude.{slice_get, slice_set, option_map}
+use Rattle.std.proofs.Common.{◌≡◌, ℕ, zero, suc, ◌<◌, ◌≤◌, List, [], ◌∷◌, ◌++◌, map, Option, Some, None, Bool, true, false, cond, refl, ap, ◌∙◌, sym, subst, ◌⊎◌, inl, inr, arith}
+use Rattle.std.specs.Prelude.{slice_get, option_map}
 use Rattle.std.proofs.Math.ListN.{length-set}
 use Rattle.std.proofs.lemmas.List.{length-map}
 use Rattle.std.proofs.lemmas.Bool.{cases_eq, cases_lt}
@@ -14,8 +14,8 @@ use Rattle.dps_core.specs.Book.{row, is_open, drop_mark, dropped_after, with_mar
 use Rattle.dps_core.specs.Pool.{times}
 use Rattle.dps_core.proofs.Books.{stopped, left_open}
 use Rattle.dps_core.proofs.Lists.{set-cases, map-at, times-append}
-use Rattle.dps_book.specs.InOrder.{first_of, Leads, AreOnce, IsAhead, AreAscending, IsLine, dropped_at, dropped_all, IsCut}
-use Rattle.dps_book.proofs.Chains.{times-here, times-there, times-more, times-split, once-behind, leads-suffix, leads-front, leads-same, differs}
+use Rattle.dps_book.specs.InOrder.{AreAscending, IsLine, dropped_at, dropped_all, IsCut}
+use Rattle.dps_book.proofs.Chains.{times-there, times-more, times-split, leads-suffix, leads-front, leads-same}
 use Rattle.dps_book.proofs.Cutting.{dropped-in, dropped-out}
 use Rattle.dps_book.proofs.Lines.{IsAround, around, IsBackAt, keep_ascending, insert_behind, behind-ticket, front-ticket}
 

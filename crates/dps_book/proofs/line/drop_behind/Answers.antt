@@ -1,4 +1,4 @@
-use Rattle.std.proofs.Common.{◌≡◌, ℕ, ◌+◌, ◌<◌, ◌≤◌, List, ◌∷◌, ◌++◌, length, Option, Some, None, Bool, cond, refl, ap, ◌∙◌, sym, subst, arith}
+use Rattle.std.proofs.Common.{◌≡◌, ℕ, ◌+◌, ◌<◌, List, length, Option, Some, Bool, cond, ap, ◌∙◌, sym, subst, arith}
 use Rattle.std.specs.Prelude.{slice_get, slice_set, slice_index_or}
 use Rattle.std.proofs.lemmas.Option.{slice_get-get_or, slice_get_within}
 use Rattle.dps_book.specs.Right.{opens}
@@ -47,7 +47,7 @@ loop-place-preserved c =
     let k = cutting-link rows next t old cut u c.loop-place.place c.loop-place.dropped c.in-Some.is c.loop-place.invariant in
     let e = taken cut u c.index_mut-in-Some.result.now link (slice_get_within cut u k.0 k.1) c.index_mut-in-Some.ensures.value c.take-place-in-Some.ensures.value in
     let counts : c.if-drop_at.dropped + opens new ≡ c.loop-place.dropped + opens old = elim c.if-drop_at.branch [
-      then-drop_at w ↦ omega (arith, w.dropped-is, c.drop_at.ensures.count, ap {B = ℕ} (λ (b : Bool). cond b 1 0) w.if-drop_at.true)
+      | then-drop_at w ↦ omega (arith, w.dropped-is, c.drop_at.ensures.count, ap {B = ℕ} (λ (b : Bool). cond b 1 0) w.if-drop_at.true)
       | else-drop_at w ↦ omega (arith, w.dropped-is, c.drop_at.ensures.count, ap {B = ℕ} (λ (b : Bool). cond b 1 0) w.if-drop_at.false)
     ] in
     subst (λ (x : Option ℕ). IsCutting rows next t new (slice_set cut u x) link c.if-drop_at.dropped) (sym c.take-place-in-Some.ensures.after)

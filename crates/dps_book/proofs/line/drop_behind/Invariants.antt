@@ -1,4 +1,4 @@
-use Rattle.std.proofs.Common.{◌≡◌, ℕ, ◌+◌, cond}
+use Rattle.std.proofs.Common.{◌+◌}
 use Rattle.dps_book.proofs.Cutting.{IsCutting, links, waits}
 use Rattle.dps_book.proofs.line.drop_behind.Given as goal
 

@@ -1,4 +1,4 @@
-use Rattle.std.proofs.Common.{◌≡◌, sym, subst}
+use Rattle.std.proofs.Common.{◌≡◌, subst}
 use Rattle.dps_core.specs.Book.{first_book}
 use Rattle.dps_core.proofs.Books.{IsKept}
 use Rattle.dps_book.specs.Ledger.{Ledger}

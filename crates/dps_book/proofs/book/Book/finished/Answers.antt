@@ -1,4 +1,4 @@
-use Rattle.std.proofs.Common.{◌≡◌, ap, ◌∙◌, sym, subst, arith}
+use Rattle.std.proofs.Common.{ap, ◌∙◌, sym, subst, arith}
 use Rattle.dps_book.specs.Ledger.{Ledger, IsOver, best_ticket}
 use Rattle.dps_book.proofs.Counts.{none-open, all-closed}
 use Rattle.dps_book.proofs.book.Book.finished.Goals as goal

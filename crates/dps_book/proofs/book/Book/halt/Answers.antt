@@ -1,4 +1,3 @@
-use Rattle.std.proofs.Common.{◌≡◌}
 use Rattle.dps_book.proofs.Ledgers.{halted-right}
 use Rattle.std.specs.Vec.{vec_capacity}
 use Rattle.dps_book.proofs.book.Book.halt.Goals as goal

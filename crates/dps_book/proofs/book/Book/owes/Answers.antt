@@ -1,8 +1,7 @@
-use Rattle.std.proofs.Common.{◌≡◌, ℕ, List, Option, Some, None, Bool, true, false, refl, ap, ◌∙◌, sym, subst}
-use Rattle.std.specs.Prelude.{slice_get, IsTrue}
-use Rattle.std.proofs.lemmas.Option.{same_Some, none-some}
+use Rattle.std.proofs.Common.{◌≡◌, ℕ, List, Option, Some, true, false, ap, ◌∙◌, sym, subst}
+use Rattle.std.specs.Prelude.{slice_get}
+use Rattle.std.proofs.lemmas.Option.{none-some}
 use Rattle.dps_core.specs.declared.rows.Row.{Row}
-use Rattle.dps_core.specs.declared.event.Mark.{Mark}
 use Rattle.dps_core.specs.Book.{row}
 use Rattle.dps_book.specs.contracts.book.Book.{the_view}
 use Rattle.dps_book.specs.Ledger.{Ledger, Holds}

@@ -1,6 +1,6 @@
-use Rattle.std.proofs.Common.{◌≡◌, ℕ, ◌<◌, length, List, Option, Some, None, true, false, refl, ap, ◌∙◌, sym, subst, arith}
+use Rattle.std.proofs.Common.{◌≡◌, ℕ, List, Option, Some, true, false, ap, ◌∙◌, sym, subst, arith}
 use Rattle.std.specs.Prelude.{slice_get}
-use Rattle.std.proofs.lemmas.Option.{get_or_from_slice_get, slice_get_within, same_Some, none-some}
+use Rattle.std.proofs.lemmas.Option.{get_or_from_slice_get, slice_get_within}
 use Rattle.dps_core.specs.declared.event.Mark.{Mark}
 use Rattle.dps_core.specs.declared.event.Mark.TheVariants.{Held, DroppedHeld}
 use Rattle.dps_core.specs.declared.event.Post.{Post}
@@ -8,8 +8,7 @@ use Rattle.dps_core.specs.declared.event.Posted.TheVariants as answer
 use Rattle.dps_core.specs.declared.rows.Row.{Row}
 use Rattle.dps_core.specs.Book.{row}
 use Rattle.dps_book.specs.contracts.book.Book.{the_view}
-use Rattle.dps_book.specs.Ledger.{Ledger, Holds, HasMark, IsPost, holder}
-use Rattle.dps_book.specs.Right.{AreHeld}
+use Rattle.dps_book.specs.Ledger.{Ledger, Holds, HasMark, IsPost}
 use Rattle.dps_book.proofs.Ledgers.{held-open, held-as, holds-place}
 use Rattle.dps_book.proofs.book.Book.post.Goals as goal
 

@@ -1,8 +1,7 @@
-use Rattle.std.proofs.Common.{◌≡◌, ℕ, ◌<◌, ◌-◌, ◌∷◌, length, map, List, Option, Some, None, refl, ap, ◌∙◌, sym, subst, arith}
+use Rattle.std.proofs.Common.{◌≡◌, ℕ, ◌-◌, ◌∷◌, length, map, List, Option, Some, None, refl, ap, ◌∙◌, sym, subst, arith}
 use Rattle.std.specs.Prelude.{slice_get, slice_set}
 use Rattle.std.specs.Vec.{vec_capacity}
 use Rattle.std.proofs.lemmas.Option.{get_or_from_slice_get, slice_get_within}
-use Rattle.dps_branch.specs.declared.kind.StopKind.{StopKind}
 use Rattle.dps_core.specs.declared.event.Mark.TheVariants.{Held, Posted}
 use Rattle.dps_core.specs.declared.event.Post.TheVariants as result
 use Rattle.dps_core.specs.declared.event.Posted.TheVariants as answer
