@@ -1,4 +1,4 @@
-"""Writes texts into the folder that is named: those for `lexing`, `reading`, `unifying`, `comparing`, `ruled`, `exploring` or
+"""Writes texts into the folder that is named: those for `lexing`, `reading`, `unifying`, `comparing`, `ruled`, `exploring`, `booking` or
 `solving`. None is over 1,048,576 bytes."""
 import pathlib
 import random
@@ -108,6 +108,9 @@ UNIFYING = {"last": "last", "first": "first", "variable": "variable", "doubled":
 # names of cases: a table without a stop, and one that stops at its last look
 EXPLORING = {"none": "none", "last": "last"}
 
+# names of cases with the number of levels: trees without a stop, with a stop at each leaf, and with one at the first leaf
+BOOKING = {f"{case}{levels}": f"{case} {levels}" for case in ["kids", "stops", "first"] for levels in [12, 16, 20]}
+
 # Scenes and asks, as words behind one another. A term is written with its symbol behind its arguments: `a` is a public name,
 # `n` a private one, `v` a variable, `e` an entry, `x` a handle, and `u`, `p`, `t` are symbols over one, two and three terms.
 # `M` begins a scene with a frame of this length, `V` is a variable of this level (they are numbered from 1), and what stands
@@ -181,5 +184,5 @@ folder = pathlib.Path(sys.argv[2])
 # names of cases: eight senders and receivers, a word of one input and one output in turn, and one of two and two
 SEMANTICS = {"settle": "settle", "word": "word", "doubled": "doubled"}
 
-for name, text in {"lexing": LEXING, "reading": READING, "unifying": UNIFYING, "comparing": COMPARING, "ruled": RULED, "exploring": EXPLORING, "solving": SOLVING, "semantics": SEMANTICS}[sys.argv[1]].items():
+for name, text in {"lexing": LEXING, "reading": READING, "unifying": UNIFYING, "comparing": COMPARING, "ruled": RULED, "exploring": EXPLORING, "booking": BOOKING, "solving": SOLVING, "semantics": SEMANTICS}[sys.argv[1]].items():
     (folder / f"{name}.txt").write_text(text)

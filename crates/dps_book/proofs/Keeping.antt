@@ -1,26 +1,24 @@
 -- What a book keeps of its parts, through each of its calls.
-use Rattle.std.proofs.Common.{◌≡◌, ℕ, zero, suc, ◌+◌, ◌*◌, ◌<◌, ◌≤◌, List, [], ◌∷◌, ◌++◌, length, map, Option, Some}
-use Rattle.std.proofs.Common.{None, Bool, true, false, cond, eqb, refl, ap, ◌∙◌, sym, subst, ◌⊎◌, inl, inr, arith, length-append}
+use Rattle.std.proofs.Common.{◌≡◌, ℕ, ◌+◌, ◌*◌, ◌≤◌, List, [], ◌∷◌, ◌++◌, length, map, Option, Some}
+use Rattle.std.proofs.Common.{None, Bool, true, false, refl, ap, ◌∙◌, sym, subst, ◌⊎◌, inl, inr, arith, length-append}
 use Rattle.std.specs.Prelude.{slice_get, slice_set}
 use Rattle.std.proofs.Math.ListN.{length-set}
 use Rattle.std.proofs.lemmas.List.{length-map}
 use Rattle.std.proofs.lemmas.Bool.Decides.{nat_tests}
-use Rattle.std.proofs.lemmas.Option.{same_Some, none-some, slice_get_within}
+use Rattle.std.proofs.lemmas.Option.{slice_get_within}
 use Rattle.dps_branch.specs.declared.kind.StopKind.{StopKind}
-use Rattle.dps_core.specs.declared.event.Mark.{Mark}
 use Rattle.dps_core.specs.declared.event.Mark.TheVariants.{Open, Held, Posted, Dropped, DroppedHeld}
 use Rattle.dps_core.specs.declared.event.Post as post_type
 use Rattle.dps_core.specs.declared.event.Post.TheVariants as result
 use Rattle.dps_core.specs.declared.event.Posted.TheVariants as answer
 use Rattle.dps_core.specs.declared.rows.Row.{Row}
-use Rattle.dps_core.specs.Book.{Book, first_book, row, is_open, halted_book, dropped_after, kids, with_mark}
+use Rattle.dps_core.specs.Book.{first_book, row, dropped_after, kids, with_mark}
 use Rattle.dps_core.proofs.Books.{book_of}
 use Rattle.dps_core.proofs.Lists.{set-cases, length-kids}
 use Rattle.dps_book.specs.declared.entry.Entry.{Entry}
 use Rattle.dps_book.specs.declared.entry.Entry.TheVariants as entry
-use Rattle.dps_book.specs.Journal.{claim_by, claims_by, IsKnown, AreKnown}
-use Rattle.dps_book.specs.Ledger.{holder}
-use Rattle.dps_book.specs.Right.{opens, owed_by, owed, IsRight}
+use Rattle.dps_book.specs.Journal.{claim_by, claims_by, AreKnown}
+use Rattle.dps_book.specs.Right.{opens, IsRight}
 use Rattle.dps_book.proofs.Counts.{opens-set, owed-set, opens-append, owed-append, opens-kids, owed-kids, owed-drop, replay-append, claims_by-append, known-append}
 use Rattle.dps_book.proofs.Holding.{held-claim, held-post, held-kids, held-drop}
 

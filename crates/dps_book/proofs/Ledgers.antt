@@ -1,5 +1,5 @@
 -- What the parts of a book say of its ledger, and how the ledger goes on.
-use Rattle.std.proofs.Common.{◌≡◌, ℕ, ◌+◌, ◌*◌, ◌<◌, ◌≤◌, List, [], ◌∷◌, ◌++◌, length, map, Option, Some, None, Bool, true, false, refl, ap, ◌∙◌, sym, subst, arith}
+use Rattle.std.proofs.Common.{◌≡◌, ℕ, ◌+◌, ◌*◌, ◌≤◌, List, [], ◌∷◌, ◌++◌, length, map, Option, Some, None, Bool, true, false, refl, ap, ◌∙◌, sym, subst, arith}
 use Rattle.std.specs.Prelude.{slice_get, slice_set}
 use Rattle.std.proofs.Math.ListN.{length-set}
 use Rattle.std.proofs.lemmas.Option.{same_Some, none-some, slice_get_within}
@@ -12,10 +12,9 @@ use Rattle.dps_core.specs.declared.event.Claim.TheVariants as claim
 use Rattle.dps_core.specs.declared.event.Post.TheVariants as result
 use Rattle.dps_core.specs.declared.event.Posted.TheVariants as answer
 use Rattle.dps_core.specs.declared.rows.Row.{Row}
-use Rattle.dps_core.specs.Book.{Book, row, first_book, is_open, dropped_after, kids, with_mark, Posts}
+use Rattle.dps_core.specs.Book.{Book, row, first_book, dropped_after, kids, with_mark, Posts}
 use Rattle.dps_core.proofs.Books.{book_of, IsKept, claim-keeps, dropped-keeps, halt-keeps, kids-keeps, stop-keeps}
 use Rattle.dps_core.proofs.Pools.{first-kept}
-use Rattle.dps_core.proofs.Lists.{set-append}
 use Rattle.dps_book.specs.declared.entry.Entry.{Entry}
 use Rattle.dps_book.specs.declared.entry.Entry.TheVariants as entry
 use Rattle.dps_book.specs.Journal.{Happens, IsReplay}

@@ -2,3 +2,10 @@ pub mod Counts
 pub mod Holding
 pub mod Keeping
 pub mod Ledgers
+pub mod Chains
+pub mod Linking
+pub mod Cutting
+pub mod Lines
+pub mod Stops
+pub mod Kids
+pub mod Starting

@@ -1,8 +1,7 @@
 -- The journal of a book: what has happened to it, in order.
-use Rattle.std.specs.Prelude.{◌≡◌, ℕ, zero, suc, ◌+◌, ◌<◌, List, [], ◌∷◌, ◌++◌, Bool, true, false, cond, ◌==◌}
+use Rattle.std.specs.Prelude.{◌≡◌, ℕ, zero, suc, ◌+◌, ◌<◌, List, [], ◌∷◌, false, cond, ◌==◌}
 use Rattle.dps_core.specs.Book.{Book, halted_book, Claims, Posts}
 use Rattle.dps_core.specs.declared.event.Claim.TheVariants as claim
-use Rattle.dps_core.specs.declared.event.Claim as claim_type
 use Rattle.dps_core.specs.declared.event.Posted as posted_type
 use Rattle.dps_book.specs.declared.entry.Entry.{Entry}
 use Rattle.dps_book.specs.declared.entry.Entry.TheVariants as entry

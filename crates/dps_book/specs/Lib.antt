@@ -1,3 +1,4 @@
 pub mod Journal
 pub mod Ledger
 pub mod Right
+pub mod InOrder

@@ -1,5 +1,5 @@
 -- What a book keeps of its parts.
-use Rattle.std.specs.Prelude.{◌≡◌, ℕ, ◌+◌, ◌*◌, ◌≤◌, List, [], ◌∷◌, length, Bool, true, false, cond, Option, Some, None, slice_get}
+use Rattle.std.specs.Prelude.{◌≡◌, ℕ, ◌+◌, ◌*◌, ◌≤◌, List, [], ◌∷◌, length, Bool, cond, Option, Some, slice_get}
 use Rattle.dps_branch.specs.declared.kind.StopKind.{StopKind}
 use Rattle.dps_core.specs.declared.event.Mark.{Mark}
 use Rattle.dps_core.specs.declared.event.Mark.TheVariants.{Open, Held, Posted, Dropped, DroppedHeld}

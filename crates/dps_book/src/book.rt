@@ -8,11 +8,11 @@ ghost use Rattle.dps_core.specs.declared.rows.Row.{Row};
 ghost use Rattle.dps_core.specs.Book.{row, first_book};
 ghost use Rattle.dps_book.specs.Journal.{IsReplay, claims_by, claims_in, claims_of_all};
 ghost use Rattle.dps_book.specs.Ledger.{Ledger, first_ledger, Holds, IsReady, IsClaim, IsPost, IsHalt, IsOver, HasMark, PostsAt, AreAhead, best_ticket};
-ghost use Rattle.dps_book.specs.Right.{opens};
 
 use crate::entry::Entry;
+use crate::line::{drop_behind, link_kids};
 use dps_branch::StopKind;
-use dps_core::{Claim, Mark, Post, Posted, Row, drop_after, kids_of};
+use dps_core::{Claim, Mark, Post, Posted, Row, kids_of};
 use dps_path::{NoMemory, Path};
 use std::alloc::Global;
 use std::marker::Model;
@@ -28,6 +28,8 @@ pub struct Final {
 #[derive(Debug, Drop)]
 pub struct Book {
     rows: Vec<Row>,
+    /// For each ticket the next one in the order of paths, up to the best stop.
+    next: Vec<Option<u64>>,
     best: Option<(u64, StopKind)>,
     halted: bool,
     /// How many rows are open.
@@ -45,12 +47,13 @@ impl Model for Book {
     ghost use Rattle.std.specs.Prelude.{length};
     ghost use Rattle.std.specs.Vec.{vec_capacity};
     ghost use Rattle.dps_book.specs.Right.{IsRight};
+    ghost use Rattle.dps_book.specs.InOrder.{IsLine};
 
     ghost Value = { Ledger };
 
     ghost view = { λ b. record { book = record { rows = b.rows.items; best = b.best; halted = b.halted }; workers = length b.holds.items; journal = b.journal.items } };
 
-    ghost invariant = { λ b. IsRight b.rows.items b.best b.halted b.open_paths b.holds.items b.claims.items b.journal.items (vec_capacity b.journal) };
+    ghost invariant = { λ b. IsRight b.rows.items b.best b.halted b.open_paths b.holds.items b.claims.items b.journal.items (vec_capacity b.journal) × IsLine b.rows.items b.next.items };
 }
 
 /// Whether the ticket has this path, and it is open and nobody holds it.
@@ -93,28 +96,23 @@ fn ticket_of(stop: Option<(u64, StopKind)>) -> Option<u64>
     }
 }
 
-/// How many rows are open.
-fn count_open(rows: &[Row]) -> u64
-    ensures { result ≡ opens rows.now }
-{
-    let mut count = 0;
-    for row in rows {
-        if row.mark.is_open() {
-            count += 1;
-        }
-    }
-    count
-}
-
-/// Room for so many more rows, and for all entries that may come at the rows.
-fn make_room(rows: &mut Vec<Row>, journal: &mut Vec<Entry>, count: u32) -> Result<(), NoMemory>
+/// Room for so many more rows with their links, and for all entries that may come at the rows.
+fn make_room(
+    rows: &mut Vec<Row>,
+    next: &mut Vec<Option<u64>>,
+    journal: &mut Vec<Entry>,
+    count: u32,
+) -> Result<(), NoMemory>
     requires { length journal.old.items ≤ 2 * length rows.old.items + 1 }
     ensures rows { rows.new.items ≡ rows.old.items }
+    ensures next { next.new.items ≡ next.old.items }
     ensures journal { journal.new.items ≡ journal.old.items }
     ensures more { vec_capacity journal.old ≤ vec_capacity journal.new }
+    ensures links { OnOk result (length next.old.items + count ≤ vec_capacity next.new) }
     ensures done { OnOk result (2 * (length rows.old.items + count) + 1 ≤ vec_capacity journal.new) }
 {
     rows.reserve(count as usize)?;
+    next.reserve(count as usize)?;
     let all = 2 * (rows.len() + count as usize) + 1;
     journal.reserve(all - journal.len())?;
     Ok(())
@@ -132,6 +130,8 @@ impl Book {
             path: Path::root(alloc),
             mark: Mark::Open,
         })?;
+        let mut next = Vec::new(alloc);
+        next.push(None)?;
         let mut holds = Vec::new(alloc);
         let mut claims = Vec::new(alloc);
         for _ in 0..workers {
@@ -141,6 +141,7 @@ impl Book {
         let journal = Vec::with_capacity(alloc, 3)?;
         Ok(Book {
             rows,
+            next,
             best: None,
             halted: false,
             open_paths: 1,
@@ -243,9 +244,10 @@ impl Book {
     {
         let index = ticket as usize;
         let mut kids = kids_of(*self.rows.allocator(), &self.rows[index].path, count)?;
-        make_room(&mut self.rows, &mut self.journal, count)?;
+        make_room(&mut self.rows, &mut self.next, &mut self.journal, count)?;
         let first = self.rows.len() as u64;
         self.rows.append(&mut kids)?;
+        link_kids(&mut self.next, index, count);
         self.rows[index].mark = Mark::Posted;
         self.open_paths = self.open_paths - 1 + u64::from(count);
         self.holds[worker as usize] = None;
@@ -257,15 +259,15 @@ impl Book {
         Ok(first)
     }
 
-    /// A stop at an open path.
+    /// A stop at an open path. What is after it is dropped.
     fn post_stop(&mut self, worker: u32, ticket: u64, kind: StopKind)
         requires { HasMark self.old ticket (Held worker) }
         ensures { PostsAt self.old worker ticket (Held worker) (found.Stop kind) answer.Best self.new }
     {
         let index = ticket as usize;
         self.rows[index].mark = Mark::Posted;
-        drop_after(&mut self.rows, index);
-        self.open_paths = count_open(&self.rows);
+        let dropped = drop_behind(&mut self.rows, &mut self.next, index);
+        self.open_paths = self.open_paths - 1 - dropped;
         self.best = Some((ticket, kind));
         self.holds[worker as usize] = None;
         self.journal.push_reserved(Entry::Posted {

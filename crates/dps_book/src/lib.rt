@@ -2,10 +2,13 @@
 //!
 //! A ticket is the index of a path in the book; the root has ticket 0. `specs/Ledger` has what each call says,
 //! `specs/Journal` how the journal is replayed. The book itself is that of the pure machine.
+//!
+//! No call looks through the paths: the tickets are linked in the order of their paths (`specs/InOrder`).
 #![tactic(auto)]
 
 mod book;
 mod entry;
+mod line;
 #[cfg(test)]
 mod tests;
 

@@ -10,12 +10,14 @@ use Rattle.dps_core.proofs.Books.{book_of}
 use Rattle.dps_book.specs.contracts.book.Book.{the_view}
 use Rattle.dps_book.specs.Ledger.{Ledger, IsReady, IsClaim}
 use Rattle.dps_book.proofs.Counts.{claims_by-le}
+use Rattle.dps_book.specs.InOrder.{IsLine}
+use Rattle.dps_book.proofs.Lines.{line-mark}
 use Rattle.dps_book.proofs.Ledgers.{ledger_of, place-free, claimed-right, claimed-live}
 use Rattle.dps_book.proofs.book.Book.claim.Goals as goal
 
 pub overflow_add-index_mut : goal.overflow_add-index_mut
 overflow_add-index_mut c =
-    let k = c.self.invariant in
+    let k = c.self.invariant.0 in
     let claims = c.self.inside.claims.items in
     let w = c.args.worker in
     let n = c.index_mut-3.result.now in
@@ -26,7 +28,7 @@ overflow_add-index_mut c =
 
 pub invariant_of-self : goal.invariant_of-self
 invariant_of-self c =
-    let k = c.self.invariant in
+    let k = c.self.invariant.0 in
     let rows = c.self.inside.rows.items in
     let holds = c.self.inside.holds.items in
     let claims = c.self.inside.claims.items in
@@ -41,9 +43,14 @@ invariant_of-self c =
     let free : slice_get holds w ≡ Some None = place-free (the_view c.self.inside) holds w (get_or holds w d) k.holding ready (slice_get-get_or holds w d ready.0) in
     let e : slice_get rows t ≡ Some (row p Open) = ap (λ (x : List Row). slice_get x t) (sym c.deref.ensures.value) ∙ c.is_waiting.ensures.0 c.if-not-is_waiting.false in
     let same : c.index_mut.result.now ≡ row p Open = c.index_mut.ensures.value ∙ get_or_from_slice_get rows t (row p Open) c.index_mut.result.now e in
-    claimed-right rows c.self.inside.best c.self.inside.halted c.self.inside.open_paths holds claims c.self.inside.journal.items c.push_reserved.new.self.items
-    (vec_capacity c.self.inside.journal) (vec_capacity c.push_reserved.new.self) w t n p c.index_mut.result.now.path
-    c.if-self.false e free mine (ap (λ (r : Row). r.path) same) c.push_reserved.ensures.items c.push_reserved.ensures.capacity k
+    let ordered : IsLine (slice_set rows t (row c.index_mut.result.now.path (Held w))) c.self.inside.next.items =
+    subst (λ (x : List ℕ). IsLine (slice_set rows t (row x (Held w))) c.self.inside.next.items) (sym (ap (λ (r : Row). r.path) same))
+    (line-mark rows c.self.inside.next.items t p Open (Held w) e (λ h. refl) c.self.invariant.1) in (
+      claimed-right rows c.self.inside.best c.self.inside.halted c.self.inside.open_paths holds claims c.self.inside.journal.items c.push_reserved.new.self.items
+          (vec_capacity c.self.inside.journal) (vec_capacity c.push_reserved.new.self) w t n p c.index_mut.result.now.path
+          c.if-self.false e free mine (ap (λ (r : Row). r.path) same) c.push_reserved.ensures.items c.push_reserved.ensures.capacity k,
+      ordered,
+    )
 
 pub returns : goal.returns
 returns c =

@@ -1,8 +1,7 @@
-use Rattle.std.proofs.Common.{◌≡◌, ℕ, List, Option, Some, None, Bool, true, false, refl, ap, ◌∙◌, sym, subst}
-use Rattle.std.specs.Prelude.{slice_get, IsTrue}
-use Rattle.std.proofs.lemmas.Option.{same_Some, none-some}
+use Rattle.std.proofs.Common.{◌≡◌, ℕ, List, Option, Some, true, false, ap, ◌∙◌, sym, subst}
+use Rattle.std.specs.Prelude.{slice_get}
+use Rattle.std.proofs.lemmas.Option.{none-some}
 use Rattle.dps_core.specs.declared.rows.Row.{Row}
-use Rattle.dps_core.specs.declared.event.Mark.{Mark}
 use Rattle.dps_core.specs.Book.{row}
 use Rattle.dps_book.specs.contracts.book.Book.{the_view}
 use Rattle.dps_book.specs.Ledger.{Ledger, Holds}
@@ -16,7 +15,7 @@ returns-in-Some c =
     let w = c.args.worker in
     let p = c.args.path.now in
     let t = c.in-Some.ticket in
-    let k = c.self.invariant.holding in
+    let k = c.self.invariant.0.holding in
     let mine : slice_get holds w ≡ Some (Some t) = ap (λ (x : List (Option ℕ)). slice_get x w) (sym c.deref.ensures.value) ∙ (c.held_by.ensures t).0 c.in-Some.is in (
       (λ h.
           let m = c.has_path.ensures.0 h in
@@ -38,6 +37,6 @@ returns-in-None c =
       (λ h. let clash : false ≡ true = h in cc),
       (λ h.
           let g : (ticket : ℕ) × Holds (the_view c.self.inside) w ticket p = subst (λ (x : Ledger). (ticket : ℕ) × Holds x w ticket p) (sym c.self.view_is) h in
-          let here : slice_get holds w ≡ Some (Some g.0) = holds-place (the_view c.self.inside) holds w g.0 p c.self.invariant.holding g.1 in
+          let here : slice_get holds w ≡ Some (Some g.0) = holds-place (the_view c.self.inside) holds w g.0 p c.self.invariant.0.holding g.1 in
           absurd (none-some g.0 (sym c.in-None.is ∙ (c.held_by.ensures g.0).1 (ap (λ (x : List (Option ℕ)). slice_get x w) c.deref.ensures.value ∙ here)))),
     )

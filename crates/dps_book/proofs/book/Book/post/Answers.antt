@@ -1,6 +1,6 @@
-use Rattle.std.proofs.Common.{◌≡◌, ℕ, ◌<◌, length, List, Option, Some, None, true, false, refl, ap, ◌∙◌, sym, subst, arith}
+use Rattle.std.proofs.Common.{◌≡◌, ℕ, List, Option, Some, true, false, ap, ◌∙◌, sym, subst, arith}
 use Rattle.std.specs.Prelude.{slice_get}
-use Rattle.std.proofs.lemmas.Option.{get_or_from_slice_get, slice_get_within, same_Some, none-some}
+use Rattle.std.proofs.lemmas.Option.{get_or_from_slice_get, slice_get_within}
 use Rattle.dps_core.specs.declared.event.Mark.{Mark}
 use Rattle.dps_core.specs.declared.event.Mark.TheVariants.{Held, DroppedHeld}
 use Rattle.dps_core.specs.declared.event.Post.{Post}
@@ -8,8 +8,7 @@ use Rattle.dps_core.specs.declared.event.Posted.TheVariants as answer
 use Rattle.dps_core.specs.declared.rows.Row.{Row}
 use Rattle.dps_core.specs.Book.{row}
 use Rattle.dps_book.specs.contracts.book.Book.{the_view}
-use Rattle.dps_book.specs.Ledger.{Ledger, Holds, HasMark, IsPost, holder}
-use Rattle.dps_book.specs.Right.{AreHeld}
+use Rattle.dps_book.specs.Ledger.{Ledger, Holds, HasMark, IsPost}
 use Rattle.dps_book.proofs.Ledgers.{held-open, held-as, holds-place}
 use Rattle.dps_book.proofs.book.Book.post.Goals as goal
 
@@ -17,7 +16,7 @@ pub unreachable-requires : goal.unreachable-requires
 unreachable-requires c =
     let w = c.args.worker in
     let h = subst (λ (x : Ledger). (ticket : ℕ) × (path : List ℕ) × Holds x w ticket path) (sym c.self.view_is) c.requires in
-    let e : slice_get c.self.inside.holds.items w ≡ Some (Some h.0) = holds-place (the_view c.self.inside) c.self.inside.holds.items w h.0 h.1 c.self.invariant.holding h.2 in
+    let e : slice_get c.self.inside.holds.items w ≡ Some (Some h.0) = holds-place (the_view c.self.inside) c.self.inside.holds.items w h.0 h.1 c.self.invariant.0.holding h.2 in
     let f : c.held_by.result ≡ Some h.0 = (c.held_by.ensures h.0).1 (ap (λ (x : List (Option ℕ)). slice_get x w) c.deref.ensures.value ∙ e) in
     cc
 
@@ -26,7 +25,7 @@ index-requires c =
     let w = c.args.worker in
     let t = c.in-Some.ticket in
     let mine : slice_get c.self.inside.holds.items w ≡ Some (Some t) = ap (λ (x : List (Option ℕ)). slice_get x w) (sym c.deref.ensures.value) ∙ (c.held_by.ensures t).0 c.in-Some.is in
-    let m = c.self.invariant.holding.marked w t mine in
+    let m = c.self.invariant.0.holding.marked w t mine in
     omega (arith, slice_get_within c.self.inside.rows.items t m.0 m.1, c.self.inside.rows.ok)
 
 pub post_late-requires : goal.post_late-requires
@@ -34,7 +33,7 @@ post_late-requires c =
     let t = c.in-Some.ticket in
     let w = c.args.worker in
     let mine : slice_get c.self.inside.holds.items w ≡ Some (Some t) = ap (λ (x : List (Option ℕ)). slice_get x w) (sym c.deref.ensures.value) ∙ (c.held_by.ensures t).0 c.in-Some.is in
-    let m = c.self.invariant.holding.marked w t mine in
+    let m = c.self.invariant.0.holding.marked w t mine in
     let same : c.index.result.now ≡ m.0 = c.index.ensures ∙ get_or_from_slice_get c.self.inside.rows.items t m.0 c.index.result.now m.1 in
     let mark : m.0.mark ≡ DroppedHeld w = ap (λ (r : Row). r.mark) (sym same) ∙ c.is_dropped_held_by.ensures.0 c.if-is_dropped_held_by.true in
     subst (λ (x : Ledger). HasMark x t (DroppedHeld w)) c.self.view_is (m.0.path, m.1 ∙ ap (λ (x : Mark). Some (row m.0.path x)) mark)
@@ -44,7 +43,7 @@ returns-then-is_dropped_held_by-clause-done c = λ ticket path h.
     let t = c.in-Some.ticket in
     let w = c.args.worker in
     let holds = c.self.inside.holds.items in
-    let k = c.self.invariant.holding in
+    let k = c.self.invariant.0.holding in
     let mine : slice_get holds w ≡ Some (Some t) = ap (λ (x : List (Option ℕ)). slice_get x w) (sym c.deref.ensures.value) ∙ (c.held_by.ensures t).0 c.in-Some.is in
     let m = k.marked w t mine in
     let same : c.index.result.now ≡ m.0 = c.index.ensures ∙ get_or_from_slice_get c.self.inside.rows.items t m.0 c.index.result.now m.1 in
@@ -59,7 +58,7 @@ post_kids-requires c =
     let t = c.in-Some.ticket in
     let w = c.args.worker in
     let mine : slice_get c.self.inside.holds.items w ≡ Some (Some t) = ap (λ (x : List (Option ℕ)). slice_get x w) (sym c.deref.ensures.value) ∙ (c.held_by.ensures t).0 c.in-Some.is in
-    let m = c.self.invariant.holding.marked w t mine in
+    let m = c.self.invariant.0.holding.marked w t mine in
     let same : c.index.result.now ≡ m.0 = c.index.ensures ∙ get_or_from_slice_get c.self.inside.rows.items t m.0 c.index.result.now m.1 in
     let other = λ (e : m.0.mark ≡ DroppedHeld w). let clash : true ≡ false = sym (c.is_dropped_held_by.ensures.1 (ap (λ (r : Row). r.mark) same ∙ e))
     ∙ c.if-is_dropped_held_by.false in let none : ⊥ = cc in none in
@@ -70,7 +69,7 @@ post_stop-requires c =
     let t = c.in-Some.ticket in
     let w = c.args.worker in
     let mine : slice_get c.self.inside.holds.items w ≡ Some (Some t) = ap (λ (x : List (Option ℕ)). slice_get x w) (sym c.deref.ensures.value) ∙ (c.held_by.ensures t).0 c.in-Some.is in
-    let m = c.self.invariant.holding.marked w t mine in
+    let m = c.self.invariant.0.holding.marked w t mine in
     let same : c.index.result.now ≡ m.0 = c.index.ensures ∙ get_or_from_slice_get c.self.inside.rows.items t m.0 c.index.result.now m.1 in
     let other = λ (e : m.0.mark ≡ DroppedHeld w). let clash : true ≡ false = sym (c.is_dropped_held_by.ensures.1 (ap (λ (r : Row). r.mark) same ∙ e))
     ∙ c.if-is_dropped_held_by.false in let none : ⊥ = cc in none in
@@ -81,7 +80,7 @@ returns-in_ok-first-in-Kids-clause-done c = λ ticket path h.
     let t = c.in-Some.ticket in
     let w = c.args.worker in
     let holds = c.self.inside.holds.items in
-    let k = c.self.invariant.holding in
+    let k = c.self.invariant.0.holding in
     let mine : slice_get holds w ≡ Some (Some t) = ap (λ (x : List (Option ℕ)). slice_get x w) (sym c.deref.ensures.value) ∙ (c.held_by.ensures t).0 c.in-Some.is in
     let m = k.marked w t mine in
     let same : c.index.result.now ≡ m.0 = c.index.ensures ∙ get_or_from_slice_get c.self.inside.rows.items t m.0 c.index.result.now m.1 in
@@ -98,7 +97,7 @@ returns-in-Stop-clause-done c = λ ticket path h.
     let t = c.in-Some.ticket in
     let w = c.args.worker in
     let holds = c.self.inside.holds.items in
-    let k = c.self.invariant.holding in
+    let k = c.self.invariant.0.holding in
     let mine : slice_get holds w ≡ Some (Some t) = ap (λ (x : List (Option ℕ)). slice_get x w) (sym c.deref.ensures.value) ∙ (c.held_by.ensures t).0 c.in-Some.is in
     let m = k.marked w t mine in
     let same : c.index.result.now ≡ m.0 = c.index.ensures ∙ get_or_from_slice_get c.self.inside.rows.items t m.0 c.index.result.now m.1 in

@@ -1,5 +1,4 @@
-use Rattle.std.proofs.Common.{◌≡◌, ℕ, ◌<◌, length, Option, Some, None, true, false, refl, ap, ◌∙◌, sym, subst, arith}
-use Rattle.std.specs.Prelude.{slice_get}
+use Rattle.std.proofs.Common.{◌≡◌, ℕ, ◌<◌, length, Option, Some, true, false, refl, ap, ◌∙◌, sym, subst, arith}
 use Rattle.std.proofs.lemmas.Option.{slice_get-get_or}
 use Rattle.dps_book.specs.contracts.book.Book.{the_view}
 use Rattle.dps_book.specs.Ledger.{Ledger, IsReady}
@@ -13,7 +12,7 @@ returns-in-Some c =
     let l : w < length holds = omega (arith, c.self.inside.holds.ok) in
     let e = slice_get-get_or holds w c.index.result.now l ∙ ap (λ (x : Option ℕ). Some x) (sym c.index.ensures) ∙ ap (λ (x : Option ℕ). Some x) c.in-Some.is in (
       (λ h. let clash : false ≡ true = h in cc),
-      (λ r. absurd (not-ready (the_view c.self.inside) holds w c.in-Some.field-0 c.self.invariant.holding e (subst (λ (x : Ledger). IsReady x w) (sym c.self.view_is) r))),
+      (λ r. absurd (not-ready (the_view c.self.inside) holds w c.in-Some.field-0 c.self.invariant.0.holding e (subst (λ (x : Ledger). IsReady x w) (sym c.self.view_is) r))),
     )
 
 pub returns-in-None : goal.returns-in-None
@@ -22,4 +21,4 @@ returns-in-None c =
     let w = c.args.worker in
     let l : w < length holds = omega (arith, c.self.inside.holds.ok) in
     let e = slice_get-get_or holds w c.index.result.now l ∙ ap (λ (x : Option ℕ). Some x) (sym c.index.ensures) ∙ ap (λ (x : Option ℕ). Some x) c.in-None.is in
-    ((λ h. subst (λ (x : Ledger). IsReady x w) c.self.view_is (is-ready (the_view c.self.inside) holds w c.self.invariant.holding refl e)), (λ r. refl))
+    ((λ h. subst (λ (x : Ledger). IsReady x w) c.self.view_is (is-ready (the_view c.self.inside) holds w c.self.invariant.0.holding refl e)), (λ r. refl))
