@@ -3,7 +3,8 @@ use Rattle.std.proofs.Common.{◌≡◌, ℕ, zero, suc, ◌<◌, take, drop, le
 use Rattle.std.specs.Prelude.{All, reverse}
 use Rattle.std.specs.List.{flat_map}
 use Rattle.std.proofs.Math.ListN.{set}
-use Rattle.std.proofs.lemmas.List.{map-append, append-nil, take-append_seam, length-reverse, length-map}
+use Rattle.std.proofs.lemmas.List.{map-append, append-nil, length-reverse, length-map}
+use Rattle.std.proofs.Math.Seq.{take-append_seam}
 use Rattle.std.proofs.lemmas.List.Elements.{All-nil, All-cons, All-head, All-tail, All-append}
 
 pub joined_append : {A B : Type 0} (f : A → List B) (xs ys : List A) → flat_map f (xs ++ ys) ≡ flat_map f xs ++ flat_map f ys
@@ -90,7 +91,7 @@ pub written_back : {A : Type 0} (xs ys : List A) (n : ℕ) → n ≡ length xs �
 written_back xs ys n e h = ap (λ m. take m (ys ++ drop (length ys) xs)) (e ∙ sym h) ∙ take-append_seam ys (drop (length ys) xs)
 
 pub mapped_back : {A : Type 0} (f : A → A) (xs ys : List A) (n : ℕ) → n ≡ length xs → ys ≡ map f xs → take n (ys ++ drop (length ys) xs) ≡ map f xs
-mapped_back f xs ys n e h = written_back xs ys n e (ap length h ∙ length-map f xs) ∙ h
+mapped_back f xs ys n e h = written_back xs ys n e (ap length h ∙ length-map xs f) ∙ h
 
 pub reversed_back : {A : Type 0} (xs ys : List A) (n : ℕ) → n ≡ length xs → ys ≡ reverse xs → take n (ys ++ drop (length ys) xs) ≡ reverse xs
 reversed_back xs ys n e h = written_back xs ys n e (ap length h ∙ length-reverse xs) ∙ h
