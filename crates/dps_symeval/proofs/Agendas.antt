@@ -1,13 +1,12 @@
 -- What becomes of an agenda.
-use Rattle.std.proofs.Common.{◌≡◌, ℕ, zero, suc, ◌+◌, ◌*◌, ◌<◌, ◌≤◌, List, [], ◌∷◌, ◌++◌, length, map, take, drop, reverse, slice_get, Some, refl, sym, ◌∙◌, ap, subst, arith, append_assoc, Bool, true, false}
-use Rattle.std.specs.Prelude.{All, Option}
+use Rattle.std.proofs.Common.{◌≡◌, ℕ, zero, suc, ◌+◌, ◌*◌, ◌<◌, ◌≤◌, List, [], ◌∷◌, ◌++◌, length, map, drop, reverse, slice_get, Some, refl, sym, ◌∙◌, ap, subst, arith, Bool, true, false}
+use Rattle.std.specs.Prelude.{All}
 use Rattle.std.specs.List.{flat_map}
 use Rattle.std.proofs.lemmas.List.{reverse-append}
 use Rattle.std.proofs.lemmas.List.Elements.{All-nil, All-cons}
-use Rattle.dps_terms.specs.Tree.{Tree, Trees, leaf, public, private, var, ax, entry, rigid, app, none, more, trees, list_of, node_count, node_counts}
+use Rattle.dps_terms.specs.Tree.{Tree, Trees, leaf, public, private, var, ax, entry, rigid, app, none, more, list_of, node_count, node_counts}
 use Rattle.dps_terms.specs.Replace.{substitute}
 use Rattle.dps_terms.specs.declared.Sym.{Sym}
-use Rattle.dps_terms.specs.declared.TermView.{TermView}
 use Rattle.dps_terms.specs.declared.TermView.TheVariants.{App}
 use Rattle.dps_terms.specs.Views.{view_of, arguments}
 use Rattle.dps_terms.specs.Seen.{seen}
@@ -17,7 +16,7 @@ use Rattle.dps_symeval.specs.Cases.{Choices, choices, is_destructor}
 use Rattle.dps_symeval.specs.Cases as Cases
 use Rattle.dps_symeval.specs.declared.agenda.Task.{Task}
 use Rattle.dps_symeval.specs.declared.agenda.Task.TheVariants.{Evaluate, Apply}
-use Rattle.dps_symeval.specs.Agenda.{no_terms, with_result, root_applied, applied_last, constructed_last, narrowed_last, done, all_done, weight, weights, IsThinned, IsOpen, AreOpen, GoesOn, IsFree, AreEvaluations, IsBegun}
+use Rattle.dps_symeval.specs.Agenda.{no_terms, with_result, root_applied, applied_last, constructed_last, narrowed_last, all_done, weight, weights, IsThinned, IsOpen, AreOpen, GoesOn, IsFree, AreEvaluations, IsBegun}
 use Rattle.dps_symeval.proofs.Mapping.{joined_same, all_mapped_within}
 use Rattle.dps_symeval.proofs.Thinning.{unchanged, in_turn, all_done_thinned}
 use Rattle.dps_symeval.proofs.Tasks.{with_all, free_done, construct_done, narrow_done, evaluate_root, evaluations_done, trees_again}

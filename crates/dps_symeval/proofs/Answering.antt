@@ -1,21 +1,20 @@
 -- From choices to cases.
-use Rattle.std.proofs.Common.{◌≡◌, ℕ, ◌+◌, ◌-◌, ◌<◌, List, [], ◌∷◌, ◌++◌, length, map, reverse, refl, sym, ◌∙◌, ap, subst, arith, append_assoc, length-append, inl, inr}
-use Rattle.std.specs.Prelude.{All, ◌⊎◌}
+use Rattle.std.proofs.Common.{◌≡◌, ℕ, ◌-◌, ◌<◌, List, [], ◌∷◌, ◌++◌, length, map, reverse, refl, sym, ◌∙◌, ap, subst, arith, append_assoc, length-append, inl, inr}
+use Rattle.std.specs.Prelude.{All}
 use Rattle.std.specs.List.{flat_map}
 use Rattle.std.proofs.lemmas.List.{append-nil, reverse-append, length-reverse, get_or-reverse}
 use Rattle.std.proofs.lemmas.List.Elements.{All-nil, All-cons, All-head, All-tail}
 use Rattle.dps_terms.specs.Tree.{Tree}
-use Rattle.dps_unify.specs.Unifier.{IsNotUnifiable}
 use Rattle.dps_theory.specs.Theory.{Theory}
 use Rattle.dps_terms.specs.Seen.{seen}
 use Rattle.dps_terms.specs.declared.borrowed.TermRef.{TermRef}
 use Rattle.dps_symeval.specs.Cases.{Case, Choices, choices, cases, equal_cases, equal_with, as_case, result_of, IsUnifiable, IsPruned, all_seen, keeps, leaves_out, ArePossible}
 use Rattle.dps_symeval.specs.Cases as Cases
 use Rattle.dps_symeval.specs.declared.agenda.Task.{Task}
-use Rattle.dps_symeval.specs.declared.agenda.Task.TheVariants.{Evaluate, Apply}
-use Rattle.dps_symeval.specs.Agenda.{no_terms, done, all_done, IsThinned, none_left, stays, goes, IsOpen, AreOpen, as_equal_case, second_of, AddsPossible}
+use Rattle.dps_symeval.specs.declared.agenda.Task.TheVariants.{Evaluate}
+use Rattle.dps_symeval.specs.Agenda.{no_terms, all_done, IsThinned, none_left, stays, goes, AreOpen, as_equal_case, second_of, AddsPossible}
 use Rattle.dps_symeval.proofs.Listed.{all_left, all_right}
-use Rattle.dps_symeval.proofs.Mapping.{mapped_joined, mapped_in_turn, mapped_alike, joined_alike, joined_within, all_joined, all_mapped_within}
+use Rattle.dps_symeval.proofs.Mapping.{mapped_joined, mapped_in_turn, mapped_alike, joined_within, all_joined, all_mapped_within}
 use Rattle.dps_symeval.proofs.Thinning.{pruned_as, pruned_in_turn, possible_cases, shut_longer}
 use Rattle.dps_symeval.proofs.Tasks.{one_result_each}
 

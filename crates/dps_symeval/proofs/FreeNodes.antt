@@ -2,9 +2,8 @@
 use Rattle.std.proofs.Common.{◌≡◌, ℕ, zero, suc, List, [], ◌∷◌, length, take, drop, subst, sym, refl, ◌∙◌, Bool, true, false, true≢false}
 use Rattle.std.specs.Prelude.{MatchBool}
 use Rattle.dps_terms.specs.declared.Sym.{Sym}
-use Rattle.dps_terms.specs.declared.TermView.{TermView}
 use Rattle.dps_terms.specs.declared.TermView.TheVariants.{App}
-use Rattle.dps_terms.specs.Tree.{Leaf, public, private, var, ax, entry, rigid, Tree, Trees, leaf, app, none, more, list_of, IsSubterm}
+use Rattle.dps_terms.specs.Tree.{public, private, var, ax, entry, rigid, Tree, Trees, leaf, app, none, more, list_of, IsSubterm}
 use Rattle.dps_terms.specs.Views.{view_of, arguments}
 use Rattle.dps_terms.specs.Kinds.{AnyLeaf, AreBuiltOf}
 use Rattle.dps_terms.proofs.Building.{built_subterm}

@@ -1,12 +1,12 @@
 -- What the rules of a destructor make of choices, rule by rule.
 use Rattle.std.proofs.Common.{◌≡◌, ℕ, zero, suc, ◌+◌, ◌<◌, ◌≤◌, ◌^◌, List, [], ◌∷◌, ◌++◌, length, map, take, drop, get_or, slice_get, Some, filter, refl, sym, ◌∙◌, ap, subst, arith, append_assoc, length-append, Bool, true, false, cond}
 use Rattle.std.specs.Prelude.{All, Contains, max, min}
-use Rattle.std.specs.List.{flat_map, filter_map, cons_option, zip}
+use Rattle.std.specs.List.{flat_map, cons_option, zip}
 use Rattle.std.proofs.Math.Seq.{take-suc, drop-cons}
 use Rattle.std.proofs.lemmas.List.{append-nil, map-append, take_all, drop_all}
 use Rattle.std.proofs.lemmas.List.Elements.{All-nil, All-cons, All-append, filter_map-append}
 use Rattle.dps_terms.specs.declared.Sym.{Sym}
-use Rattle.dps_terms.specs.Tree.{Tree, StandsIn, var}
+use Rattle.dps_terms.specs.Tree.{Tree}
 use Rattle.dps_unify.specs.Unifier.{IsNotUnifiable, IsMgu}
 use Rattle.dps_terms.specs.Bindings.{image}
 use Rattle.dps_unify.specs.Renaming.{HasRoom}
@@ -14,7 +14,7 @@ use Rattle.dps_theory.specs.Theory.{Rule, Theory, IsBounded, IsAccepted}
 use Rattle.dps_theory.specs.Overlaps.{room, least_above}
 use Rattle.dps_theory.specs.Index.{has_root, places_from, places}
 use Rattle.dps_symeval.specs.Cases.{Choices, IsUnifiable, rules_of}
-use Rattle.dps_symeval.specs.Agenda.{IsThinned, none_left, stays, goes, IsOpen, AreOpen, AddsOpen, at_places, reduced_last, narrowed_last}
+use Rattle.dps_symeval.specs.Agenda.{none_left, stays, goes, IsOpen, AreOpen, AddsOpen, at_places, reduced_last}
 use Rattle.dps_symeval.proofs.Listed.{contains_first, contains_later}
 use Rattle.dps_symeval.proofs.Complete.{left_below, right_below}
 use Rattle.dps_symeval.proofs.Thinning.{beside}

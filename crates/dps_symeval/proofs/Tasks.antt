@@ -1,5 +1,5 @@
 -- What tasks make of choices.
-use Rattle.std.proofs.Common.{◌≡◌, ℕ, ◌+◌, ◌-◌, List, [], ◌∷◌, ◌++◌, length, map, take, drop, reverse, refl, sym, ◌∙◌, ap, subst, arith, append_assoc, length-append, Bool, true, false, cond}
+use Rattle.std.proofs.Common.{◌≡◌, ℕ, ◌+◌, ◌-◌, List, [], ◌∷◌, ◌++◌, length, map, take, drop, refl, sym, ◌∙◌, ap, arith, append_assoc, length-append, Bool, true, false, cond}
 use Rattle.std.specs.Prelude.{All, ⊤}
 use Rattle.std.specs.List.{flat_map}
 use Rattle.std.proofs.lemmas.List.{append-nil}
@@ -7,7 +7,6 @@ use Rattle.std.proofs.lemmas.List.Elements.{All-nil, All-cons}
 use Rattle.std.proofs.Math.Seq.{take-append_seam, drop-append_seam}
 use Rattle.dps_terms.specs.declared.Sym.{Sym}
 use Rattle.dps_terms.specs.Tree.{Tree, Trees, leaf, app, none, more, trees, list_of, count}
-use Rattle.dps_terms.specs.Seen.{seen}
 use Rattle.dps_terms.specs.Kinds.{AnyLeaf, AreBuiltOf}
 use Rattle.dps_unify.specs.Renaming.{raised}
 use Rattle.dps_theory.specs.Theory.{Rule, Theory}
@@ -16,7 +15,7 @@ use Rattle.dps_symeval.specs.Cases.{Choices, is_destructor, reduced_by, rules_of
 use Rattle.dps_symeval.specs.Cases as Cases
 use Rattle.dps_symeval.specs.declared.agenda.Task.{Task}
 use Rattle.dps_symeval.specs.declared.agenda.Task.TheVariants.{Evaluate, Apply}
-use Rattle.dps_symeval.specs.Agenda.{last, before_last, no_terms, with_result, only_last, among_others, applied_last, constructed_last, reduced_last, narrowed_last, root_applied, done, all_done, AreEvaluations, NoDestructor, IsFree}
+use Rattle.dps_symeval.specs.Agenda.{last, before_last, with_result, only_last, among_others, applied_last, constructed_last, narrowed_last, done, all_done, AreEvaluations, NoDestructor, IsFree}
 use Rattle.dps_symeval.proofs.Sound.{length_count}
 use Rattle.dps_symeval.proofs.Mapping.{joined_in_turn, joined_mapped, mapped_joined, mapped_in_turn, mapped_alike, joined_alike, joined_within, joined_single, joined_same, all_mapped, all_mapped_within, all_joined}
 

@@ -1,19 +1,19 @@
 -- Choices of which some that nothing makes true are left out.
-use Rattle.std.proofs.Common.{◌≡◌, ℕ, List, [], ◌∷◌, ◌++◌, length, map, refl, sym, ap, subst, Bool, true, false, cond}
+use Rattle.std.proofs.Common.{◌≡◌, ℕ, List, [], ◌∷◌, ◌++◌, length, map, refl, ap, Bool, true, false, cond}
 use Rattle.std.specs.Prelude.{All}
 use Rattle.std.specs.List.{flat_map}
-use Rattle.std.proofs.lemmas.List.Elements.{All-nil, All-cons, All-head, All-tail, All-append}
+use Rattle.std.proofs.lemmas.List.Elements.{All-nil, All-cons, All-head, All-tail}
 use Rattle.dps_terms.specs.declared.Sym.{Sym}
 use Rattle.dps_terms.specs.Tree.{Tree, leaf, app, trees, list_of}
 use Rattle.dps_terms.specs.Replace.{substitute}
 use Rattle.dps_terms.specs.Seen.{seen}
-use Rattle.dps_unify.specs.Unifier.{Unifies, IsNotUnifiable}
-use Rattle.dps_theory.specs.Theory.{Rule, Theory}
+use Rattle.dps_unify.specs.Unifier.{IsNotUnifiable}
+use Rattle.dps_theory.specs.Theory.{Theory}
 use Rattle.dps_symeval.specs.Cases.{Case, Choices, IsUnifiable, IsPruned, all_seen, keeps, leaves_out, as_case, is_destructor, reduced_by, rules_of, applied, constructed, choices, fits_rule, rule_from, ArePossible}
 use Rattle.dps_symeval.specs.Cases as Cases
 use Rattle.dps_symeval.specs.declared.agenda.Task.{Task}
 use Rattle.dps_symeval.specs.declared.agenda.Task.TheVariants.{Evaluate, Apply}
-use Rattle.dps_symeval.specs.Agenda.{IsThinned, none_left, stays, goes, IsOpen, AreOpen, AddsOpen, among_others, only_last, applied_last, root_applied, done, all_done}
+use Rattle.dps_symeval.specs.Agenda.{IsThinned, none_left, stays, goes, IsOpen, AreOpen, among_others, only_last, applied_last, root_applied, done, all_done}
 use Rattle.dps_symeval.proofs.Listed.{all_left}
 use Rattle.dps_symeval.proofs.Mapping.{all_mapped, all_mapped_within}
 

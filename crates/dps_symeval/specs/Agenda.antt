@@ -1,5 +1,5 @@
 -- The choices of rules for terms, by a list of what is still to be done.
-use Rattle.std.specs.Prelude.{◌≡◌, ◌⊎◌, ◌<◌, ◌+◌, ◌-◌, ◌*◌, ℕ, Bool, false, List, [], ◌∷◌, ◌++◌, map, length, take, drop, reverse, slice_get, All, ⊤}
+use Rattle.std.specs.Prelude.{◌≡◌, ◌⊎◌, ◌+◌, ◌-◌, ◌*◌, ℕ, false, List, [], ◌∷◌, ◌++◌, map, length, take, drop, reverse, slice_get, All, ⊤}
 use Rattle.std.specs.List.{flat_map, filter_map}
 use Rattle.dps_terms.specs.declared.Sym.{Sym}
 use Rattle.dps_terms.specs.Tree.{Tree, leaf, app, trees, list_of, node_count}

@@ -1,4 +1,4 @@
-use Rattle.std.proofs.Common.{◌≡◌, ◌+◌, ◌∙◌, ap, arith}
+use Rattle.std.proofs.Common.{◌+◌, arith}
 use Rattle.dps_terms.specs.Seen.{seen}
 use Rattle.dps_symeval.specs.Cases.{Choices}
 use Rattle.dps_symeval.specs.Agenda.{with_result}

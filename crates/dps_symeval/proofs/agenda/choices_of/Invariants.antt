@@ -1,4 +1,4 @@
-use Rattle.std.proofs.Common.{List, [], ◌∷◌}
+use Rattle.std.proofs.Common.{[], ◌∷◌}
 use Rattle.std.specs.Prelude.{reverse, All}
 use Rattle.dps_symeval.specs.Agenda.{no_terms, weights, GoesOn, IsOpen}
 use Rattle.dps_symeval.proofs.agenda.choices_of.Given as goal

@@ -1,4 +1,4 @@
-use Rattle.std.proofs.Common.{◌≡◌, ◌+◌, ◌∙◌, ap, arith}
+use Rattle.std.proofs.Common.{◌+◌, arith}
 use Rattle.dps_symeval.specs.Agenda.{constructed_last}
 use Rattle.dps_symeval.proofs.Mapping.{mapped_next}
 use Rattle.dps_symeval.proofs.agenda.construct_all.Goals as goal

@@ -1,4 +1,4 @@
-use Rattle.std.proofs.Common.{◌≡◌, ◌+◌}
+use Rattle.std.proofs.Common.{◌+◌}
 use Rattle.dps_terms.specs.Seen.{seen}
 use Rattle.dps_terms.specs.Walk.{subterms_from}
 use Rattle.dps_symeval.proofs.FreeNodes.{free_from, free_inside}

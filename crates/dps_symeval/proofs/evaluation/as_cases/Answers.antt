@@ -1,7 +1,7 @@
-use Rattle.std.proofs.Common.{◌≡◌, ◌++◌, List, map, length, ap, sym, subst, ◌∙◌, arith}
+use Rattle.std.proofs.Common.{◌≡◌, map, length, ap, sym, subst, ◌∙◌, arith}
 use Rattle.std.specs.Prelude.{reverse, All}
 use Rattle.std.proofs.lemmas.List.{reverse-reverse}
-use Rattle.dps_symeval.specs.Cases.{Case, Choices, as_case}
+use Rattle.dps_symeval.specs.Cases.{Choices, as_case}
 use Rattle.dps_symeval.proofs.Mapping.{reversed_back}
 use Rattle.dps_symeval.proofs.Answering.{popped_all, reversed_all, next_case, no_choice, listed_all}
 use Rattle.dps_symeval.proofs.evaluation.as_cases.Goals as goal

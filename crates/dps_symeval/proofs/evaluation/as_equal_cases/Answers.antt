@@ -1,6 +1,5 @@
 use Rattle.std.proofs.Common.{◌≡◌, ◌++◌, List, map, length, ap, sym, subst, ◌∙◌, arith}
 use Rattle.std.specs.Prelude.{reverse, All}
-use Rattle.dps_terms.specs.Tree.{Tree}
 use Rattle.std.proofs.lemmas.List.{reverse-reverse}
 use Rattle.dps_symeval.specs.Cases.{Case, Choices, ArePossible}
 use Rattle.dps_symeval.specs.Agenda.{as_equal_case}

@@ -1,6 +1,6 @@
-use Rattle.std.proofs.Common.{◌≡◌, [], ◌∷◌, List, map, subst, sym}
+use Rattle.std.proofs.Common.{◌≡◌, [], ◌∷◌, List, map, subst}
 use Rattle.dps_terms.specs.Tree.{Tree}
-use Rattle.dps_symeval.specs.Cases.{Case, cases, as_case, ArePossible}
+use Rattle.dps_symeval.specs.Cases.{cases, as_case, ArePossible}
 use Rattle.dps_symeval.specs.declared.agenda.Task.{Task}
 use Rattle.dps_symeval.specs.Agenda.{no_terms, all_done, AreOpen}
 use Rattle.dps_symeval.proofs.Outcomes.{if_ok_then}

@@ -1,4 +1,4 @@
-use Rattle.std.proofs.Common.{◌≡◌, [], ◌∷◌, List, map, subst}
+use Rattle.std.proofs.Common.{[], ◌∷◌, List, map, subst}
 use Rattle.dps_terms.specs.Tree.{Tree}
 use Rattle.dps_symeval.specs.Cases.{equal_cases, ArePossible}
 use Rattle.dps_symeval.specs.declared.agenda.Task.{Task}

@@ -1,4 +1,4 @@
-use Rattle.std.proofs.Common.{[], take}
+use Rattle.std.proofs.Common.{take}
 use Rattle.std.specs.List.{flat_map}
 use Rattle.dps_symeval.specs.Agenda.{AreOpen, narrowed_last}
 use Rattle.dps_symeval.proofs.narrowing.narrowed.Given as goal

@@ -1,4 +1,4 @@
-use Rattle.std.proofs.Common.{◌≡◌, ◌+◌, ◌≤◌, ◌∙◌, ap, get_or, refl, arith, max}
+use Rattle.std.proofs.Common.{◌≡◌, ◌+◌, ◌∙◌, ap, get_or, refl, arith}
 use Rattle.dps_theory.specs.Overlaps.{least_above}
 use Rattle.dps_symeval.proofs.Reducing.{least_step, least_end}
 use Rattle.dps_symeval.proofs.narrowing.next_after.Goals as goal

@@ -1,4 +1,4 @@
-use Rattle.std.proofs.Common.{◌≡◌, ◌+◌, ◌++◌, ◌∙◌, ap, sym, arith}
+use Rattle.std.proofs.Common.{◌+◌, ◌++◌, ◌∙◌, ap, arith}
 use Rattle.std.specs.List.{zip}
 use Rattle.dps_terms.specs.Seen.{seen}
 use Rattle.dps_terms.specs.Views.{arguments}
