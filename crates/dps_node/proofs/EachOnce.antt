@@ -1,10 +1,12 @@
 -- Numbers that are taken each once, piece by piece.
-use Rattle.std.proofs.Common.{◌≡◌, ℕ, ◌+◌, ◌<◌, ◌≤◌, List, [], ◌∷◌, ◌++◌, length, get_or, drop, add-one, drop-cons, Bool, true, false, cond, not, filter, ◌||◌, nat_eq, refl, ap, sym, ◌∙◌, inl, inr}
+use Rattle.std.proofs.Common.{◌≡◌, ℕ, ◌+◌, ◌<◌, ◌≤◌, List, [], ◌∷◌, ◌++◌, length, get_or, take, drop, add-one, drop-cons, Bool, true, false, cond, not, filter, ◌||◌, nat_eq, refl, ap, sym, ◌∙◌, inl, inr}
 use Rattle.std.specs.Prelude.{◌==◌, ◌⊎◌, ◌≢◌}
 use Rattle.std.specs.List.{list_any}
 use Rattle.std.proofs.Math.Dec.{eqb}
 use Rattle.std.proofs.lemmas.Bool.Decides.{eqb_tells}
-use Rattle.std.proofs.lemmas.List.{drop_all}
+use Rattle.std.proofs.Math.Seq.{take-suc}
+use Rattle.std.proofs.lemmas.List.{drop_all, append-nil}
+use Rattle.std.proofs.lemmas.List.Elements.{filter-append}
 use Rattle.std.proofs.lemmas.List.Sums.{fold-append}
 use Rattle.indexmap.specs.IndexSet.{insert_key, insert_all}
 use Rattle.dps_terms.specs.Variables.{each_once}
@@ -96,3 +98,37 @@ number_next ks xs i d h = rw (add-one, drop-cons xs i d) refl
 
 pub numbers_all : (ks xs : List ℕ) (i : ℕ) → length xs ≤ i → insert_all nat_eq ks (drop i xs) ≡ ks
 numbers_all ks xs i h = ap (insert_all nat_eq ks) (drop_all i xs h)
+
+-- one number more, which is let through or not
+pub once_next : (ks xs : List ℕ) (x : ℕ) → ks ≡ each_once xs → insert_key nat_eq ks x ≡ each_once (xs ++ x ∷ [])
+once_next ks xs x e = ap (λ ys. insert_key nat_eq ys x) e ∙ once_more xs (x ∷ [])
+
+filter_next : (p : ℕ → Bool) (xs : List ℕ) (i d : ℕ) → i < length xs → filter p (take (i + 1) xs) ≡ filter p (take i xs) ++ filter p (get_or xs i d ∷ [])
+filter_next p xs i d h = ap (filter p) (ap (λ n. take n xs) (add-one i) ∙ take-suc xs i d h) ∙ filter-append p (take i xs) (get_or xs i d ∷ [])
+
+pub passes_once : (p : ℕ → Bool) (ks xs : List ℕ) (i d : ℕ) → i < length xs → p (get_or xs i d) ≡ true → ks ≡ each_once (filter p (take i xs))
+    → insert_key nat_eq ks (get_or xs i d) ≡ each_once (filter p (take (i + 1) xs))
+passes_once p ks xs i d h t e =
+    once_next ks (filter p (take i xs)) (get_or xs i d) e
+    ∙ ap (λ ys. each_once (filter p (take i xs) ++ ys)) (sym (ap (λ b. cond b (get_or xs i d ∷ []) []) t))
+    ∙ ap each_once (sym (filter_next p xs i d h))
+
+pub stops_once : (p : ℕ → Bool) (ks xs : List ℕ) (i d : ℕ) → i < length xs → p (get_or xs i d) ≡ false → ks ≡ each_once (filter p (take i xs))
+    → ks ≡ each_once (filter p (take (i + 1) xs))
+stops_once p ks xs i d h t e =
+    e
+    ∙ ap each_once
+    (sym (append-nil (filter p (take i xs)))
+    ∙ ap (λ ys. filter p (take i xs) ++ ys) (sym (ap (λ b. cond b (get_or xs i d ∷ []) []) t))
+    ∙ sym (filter_next p xs i d h))
+
+-- the numbers of a list of which each stands once that are not among others
+pub others_once : (own known xs : List ℕ) → known ≡ insert_all nat_eq [] own
+    → each_once (filter (λ y. not (list_any (nat_eq y) known)) (each_once xs)) ≡ filter (λ y. not (list_any (nat_eq y) own)) (each_once xs)
+others_once own known xs e =
+    let k : known ≡ each_once own = e ∙ found_once own in
+    let same : (λ (y : ℕ). not (list_any (nat_eq y) known)) ≡ (λ (y : ℕ). not (list_any (nat_eq y) own)) =
+    (λ i y. not ((ap (list_any (nat_eq y)) k ∙ among_once y own) i)) in
+    once_filtered (λ y. not (list_any (nat_eq y) known)) (each_once xs)
+    ∙ ap (filter (λ y. not (list_any (nat_eq y) known))) (once_again xs)
+    ∙ ap (λ p. filter p (each_once xs)) same

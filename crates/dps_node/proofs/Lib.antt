@@ -16,3 +16,7 @@ pub mod Rules
 pub mod Splitting
 pub mod Entries
 pub mod Opening
+pub mod Lowest
+pub mod Put
+pub mod Renewed
+pub mod Valuing

@@ -38,13 +38,17 @@ level_found P levels found more i d h e f =
 pub one_more : {A : Type 0} (xs : List A) (i : ℕ) (d : A) → i < length xs → take (i + 1) xs ≡ take i xs ++ get_or xs i d ∷ []
 one_more xs i d h = rw add-one (take-suc xs i d h)
 
-pub next_tree : (ts : List Tree) (i : ℕ) (d : Tree) → i < length ts → insert_all nat_eq (each_once (flat_map occurrences (take i ts))) (variables (get_or ts i d)) ≡ each_once (flat_map occurrences (take (i + 1) ts))
-next_tree ts i d h =
-    once_more (flat_map occurrences (take i ts)) (occurrences (get_or ts i d))
+-- the variables of one binding more
+pub next_binding : (b : ℕ → Tree) (xs : List ℕ) (i d : ℕ) → i < length xs
+    → insert_all nat_eq (each_once (flat_map occurrences (map b (take i xs)))) (variables (b (get_or xs i d))) ≡ each_once (flat_map occurrences (map b (take (i + 1) xs)))
+next_binding b xs i d h =
+    let more : map b (take (i + 1) xs) ≡ map b (take i xs) ++ b (get_or xs i d) ∷ [] =
+    ap (map b) (one_more xs i d h) ∙ map-append b (take i xs) (get_or xs i d ∷ []) in
+    once_more (flat_map occurrences (map b (take i xs))) (occurrences (b (get_or xs i d)))
     ∙ ap each_once
-    (ap (λ xs. flat_map occurrences (take i ts) ++ xs) (sym (append-nil (occurrences (get_or ts i d))))
-    ∙ sym (flat_map-append occurrences (take i ts) (get_or ts i d ∷ []))
-    ∙ ap (flat_map occurrences) (sym (one_more ts i d h)))
+    (ap (λ ys. flat_map occurrences (map b (take i xs)) ++ ys) (sym (append-nil (occurrences (b (get_or xs i d)))))
+    ∙ sym (flat_map-append occurrences (map b (take i xs)) (b (get_or xs i d) ∷ []))
+    ∙ ap (flat_map occurrences) (sym more))
 
 -- the variables of the trees of labels
 abbrev pub of_labels : List Label → List ℕ
@@ -74,3 +78,11 @@ filter_alike p q xs h = ap (λ t. filter t xs) (λ i x. h x i)
 -- what is found by the numbers, each once, is what stands in the trees
 pub levels_of_those : (node : Node) → filter (λ (p : ℕ × ℕ). is_among p.0 (each_once (flat_map occurrences (label_trees node)))) (numbered_from 1 node.levels) ≡ variables_of node
 levels_of_those node = filter_alike _ _ (numbered_from 1 node.levels) (λ p. among_once p.0 (flat_map occurrences (label_trees node)))
+
+-- the trees of one label more
+pub label_trees_more : (ls : List LabelValue) (i : ℕ) (d : LabelValue) → i < length ls
+    → filter_map label_tree (map label_of (take (i + 1) ls)) ≡ filter_map label_tree (map label_of (take i ls)) ++ filter_map label_tree (label_of (get_or ls i d) ∷ [])
+label_trees_more ls i d h =
+    ap (λ xs. filter_map label_tree (map label_of xs)) (one_more ls i d h)
+    ∙ ap (filter_map label_tree) (map-append label_of (take i ls) (get_or ls i d ∷ []))
+    ∙ filter_map-append label_tree (map label_of (take i ls)) (label_of (get_or ls i d) ∷ [])

@@ -11,7 +11,7 @@ use Rattle.dps_process.specs.Steps.{Label}
 use Rattle.dps_process.specs.Labels.{label_of}
 use Rattle.dps_process.specs.declared.label.Label.{Label as LabelValue}
 use Rattle.dps_node.specs.Node.{Node, label_tree, label_under}
-use Rattle.dps_node.specs.Numbering.{counted_as, as_own_name}
+use Rattle.dps_node.specs.Numbering.{counted_as, as_own_name, as_variable}
 use Rattle.dps_node.specs.Words.{word_recipes, names_for, ground_word}
 use Rattle.dps_node.proofs.Numbered.{one_more}
 
@@ -64,3 +64,12 @@ word_named node recipes keys word r k w =
     w
     ∙ ap (λ f. map (label_under (substitute f)) recipes) (ap (counted_as as_own_name 1) k ∙ names_are_those recipes)
     ∙ ap (λ ls. map (label_under (substitute (names_for ls))) ls) r
+
+-- and so for new numbers
+pub numbered_at : (n : ℕ) (xs : List ℕ) (y i : ℕ) → position (nat_eq y) xs ≡ Some i → counted_as as_variable n xs y ≡ as_variable (n + i)
+numbered_at n xs y i e =
+    let k : n ≡ n + 0 = omega arith in
+    ap (λ m. counted_as as_variable m xs y) k ∙ at_place as_variable n 0 xs y i (sym (position_from-zero (nat_eq y) xs) ∙ e)
+
+pub numbered_at_none : (n : ℕ) (xs : List ℕ) (y : ℕ) → position (nat_eq y) xs ≡ None → counted_as as_variable n xs y ≡ leaf (var y)
+numbered_at_none n xs y e = at_none as_variable n 0 xs y (sym (position_from-zero (nat_eq y) xs) ∙ e)

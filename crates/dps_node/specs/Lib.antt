@@ -8,6 +8,7 @@ pub mod Pruning
 pub mod Truth
 pub mod Invariant
 pub mod Code
+pub mod Putting
 pub mod Outcome
 pub mod Settling
 pub mod Knowing

@@ -1,72 +1,79 @@
-//! What the variables of a node become in a split.
-ghost use Rattle.std.specs.Prelude.{◌≡◌, filter, map, not, ℕ, IfOk};
+//! The variables that stand in the trees of a node's variables.
+ghost use Rattle.std.specs.Prelude.{◌≡◌, filter, map, not, IfOk};
 ghost use Rattle.std.specs.List.{flat_map};
 ghost use Rattle.dps_terms.specs.Bindings.{image};
-ghost use Rattle.dps_terms.specs.Variables.{occurrences, each_once};
+ghost use Rattle.dps_terms.specs.Variables.{occurrences, each_once, variables};
 ghost use Rattle.dps_node.specs.Numbering.{is_among};
 
-use crate::numbering::variables_of_trees;
-use dps_terms::{NoMemory, Subst, Term};
+use crate::numbering::add_numbers;
+use dps_terms::{NoMemory, Subst};
+use indexmap::IndexSet;
 use std::alloc::Global;
 
-/// The trees of the variables.
-pub(crate) fn bound_trees(
-    alloc: Global,
-    variables: &[(u64, u32)],
-    bindings: &Subst,
-) -> Result<Vec<Term>, NoMemory>
-    ensures { IfOk result (λ v. v.items ≡ map (λ (p : ℕ × ℕ). image bindings.now p.0) variables.now) }
-{
-    let mut trees = Vec::with_capacity(alloc, variables.len())?;
-    for pair in variables {
-        let tree = bound_tree(alloc, pair.0, bindings)?;
-        trees.push(tree)?;
-    }
-    Ok(trees)
-}
-
-fn bound_tree(alloc: Global, variable: u64, bindings: &Subst) -> Result<Term, NoMemory>
-    ensures { IfOk result (λ t. t ≡ image bindings.now variable) }
-{
-    match bindings.get(variable) {
-        Some(tree) => tree.copy(alloc),
-        None => Term::var(alloc, variable),
-    }
-}
-
-/// The variables of the trees that are none of these, by first occurrence.
+/// The variables of the trees of these variables that are none of them, each once, by first occurrence.
+#[tactic(auto, using(crate::proofs::EachOnce::others_once))]
 pub(crate) fn new_variables(
     alloc: Global,
-    variables: &[(u64, u32)],
-    trees: &[Term],
-) -> Result<Vec<u64>, NoMemory>
-    ensures { IfOk result (λ v. v.items ≡ filter (λ y. not (is_among y (map (λ (p : ℕ × ℕ). p.0) variables.now))) (each_once (flat_map occurrences trees.now))) }
+    own: &[u64],
+    bindings: &Subst,
+) -> Result<IndexSet<u64>, NoMemory>
+    ensures { IfOk result (λ set. set.keys ≡ filter (λ y. not (is_among y own.now)) (each_once (flat_map occurrences (map (image bindings.now) own.now)))) }
 {
-    let all = variables_of_trees(alloc, trees)?;
-    not_among(alloc, all.as_slice(), variables)
+    let mut known = IndexSet::new(alloc);
+    add_numbers(own, &mut known)?;
+    let standing = variables_of_bindings(alloc, own, bindings)?;
+    not_among(alloc, standing.as_slice(), &known)
 }
 
-/// The numbers that no pair has, in order.
-fn not_among(alloc: Global, numbers: &[u64], variables: &[(u64, u32)]) -> Result<Vec<u64>, NoMemory>
-    ensures { IfOk result (λ v. v.items ≡ filter (λ y. not (is_among y (map (λ (p : ℕ × ℕ). p.0) variables.now))) numbers.now) }
+/// The variables of the trees of these variables, each once, by first occurrence.
+#[tactic(auto, using(crate::proofs::Numbered::next_binding))]
+fn variables_of_bindings(
+    alloc: Global,
+    own: &[u64],
+    bindings: &Subst,
+) -> Result<IndexSet<u64>, NoMemory>
+    ensures { IfOk result (λ set. set.keys ≡ each_once (flat_map occurrences (map (image bindings.now) own.now))) }
 {
-    let mut others = Vec::new(alloc);
+    let mut found = IndexSet::new(alloc);
+    for variable in own {
+        let standing = variables_of_binding(alloc, *variable, bindings)?;
+        add_numbers(&standing, &mut found)?;
+    }
+    Ok(found)
+}
+
+/// The variables of the variable's tree, each once, by first occurrence.
+pub(crate) fn variables_of_binding(
+    alloc: Global,
+    variable: u64,
+    bindings: &Subst,
+) -> Result<Vec<u64>, NoMemory>
+    ensures { IfOk result (λ v. v.items ≡ variables (image bindings.now variable)) }
+{
+    match bindings.get(variable) {
+        Some(tree) => tree.vars(alloc),
+        None => {
+            let mut itself = Vec::with_capacity(alloc, 1)?;
+            itself.push(variable)?;
+            Ok(itself)
+        }
+    }
+}
+
+/// The numbers that are not in the set, each once, in order.
+#[tactic(auto, using(crate::proofs::EachOnce::passes_once, crate::proofs::EachOnce::stops_once))]
+fn not_among(
+    alloc: Global,
+    numbers: &[u64],
+    known: &IndexSet<u64>,
+) -> Result<IndexSet<u64>, NoMemory>
+    ensures { IfOk result (λ set. set.keys ≡ each_once (filter (λ y. not (is_among y known.now.keys)) numbers.now)) }
+{
+    let mut others = IndexSet::new(alloc);
     for number in numbers {
-        if !has_number(variables, *number) {
-            others.push(*number)?;
+        if !known.contains(number) {
+            others.insert(*number)?;
         }
     }
     Ok(others)
-}
-
-/// Whether one of the pairs has the number.
-fn has_number(variables: &[(u64, u32)], number: u64) -> bool
-    ensures { result ≡ is_among number (map (λ (p : ℕ × ℕ). p.0) variables.now) }
-{
-    for pair in variables {
-        if pair.0 == number {
-            return true;
-        }
-    }
-    false
 }

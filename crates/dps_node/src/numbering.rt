@@ -78,18 +78,6 @@ fn add_label(alloc: Global, label: &Label, found: &mut IndexSet<u64>) -> Result<
     }
 }
 
-/// The variables of the trees, each once, by first occurrence.
-#[tactic(auto, using(crate::proofs::Numbered::next_tree))]
-pub(crate) fn variables_of_trees(alloc: Global, trees: &[Term]) -> Result<IndexSet<u64>, NoMemory>
-    ensures { IfOk result (λ set. set.keys ≡ each_once (flat_map occurrences trees.now)) }
-{
-    let mut found = IndexSet::new(alloc);
-    for tree in trees {
-        add_variables(alloc, tree, &mut found)?;
-    }
-    Ok(found)
-}
-
 /// Adds the variables of the tree to those that were found already.
 fn add_variables(alloc: Global, tree: &Term, found: &mut IndexSet<u64>) -> Result<(), NoMemory>
     ensures { OnOk result (found.new.keys ≡ insert_all nat_eq found.old.keys (variables_of_tree tree.now)) }
@@ -100,7 +88,7 @@ fn add_variables(alloc: Global, tree: &Term, found: &mut IndexSet<u64>) -> Resul
 
 /// Adds the numbers to those that were found already.
 #[tactic(auto, using(crate::proofs::EachOnce::number_next, crate::proofs::EachOnce::numbers_all))]
-fn add_numbers(numbers: &[u64], found: &mut IndexSet<u64>) -> Result<(), NoMemory>
+pub(crate) fn add_numbers(numbers: &[u64], found: &mut IndexSet<u64>) -> Result<(), NoMemory>
     ensures { OnOk result (found.new.keys ≡ insert_all nat_eq found.old.keys numbers.now) }
 {
     for number in numbers {
