@@ -5,7 +5,6 @@ pub mod Telling
 pub mod Computing
 pub mod Trees
 pub mod Values
-pub mod EachOnce
 pub mod Numbered
 pub mod Worded
 pub mod Consisting
@@ -16,7 +15,5 @@ pub mod Rules
 pub mod Splitting
 pub mod Entries
 pub mod Opening
-pub mod Lowest
-pub mod Put
 pub mod Renewed
 pub mod Valuing

@@ -13,8 +13,8 @@ use Rattle.dps_process.specs.Labels.{label_of}
 use Rattle.dps_process.specs.declared.label.Label.{Label as LabelValue}
 use Rattle.dps_node.specs.Code.{label_variables}
 use Rattle.dps_node.specs.Node.{Node, label_tree, label_trees, numbered_from, variables_of}
-use Rattle.dps_node.specs.Numbering.{is_among}
-use Rattle.dps_node.proofs.EachOnce.{once_more, among_once}
+use Rattle.dps_renewal.specs.Numbering.{is_among}
+use Rattle.dps_renewal.proofs.EachOnce.{once_more, among_once, one_more}
 
 -- the next number with its level
 pub next_level : (P : ℕ × ℕ → Bool) (levels : List ℕ) (i d : ℕ) → i < length levels → filter P (numbered_from (i + 1) (drop i levels)) ≡ filter P ((i + 1, get_or levels i d) ∷ []) ++ filter P (numbered_from ((i + 1) + 1) (drop (i + 1) levels))
@@ -33,22 +33,6 @@ level_found P levels found more i d h e f =
     ∙ append_assoc found (filter P ((i + 1, get_or levels i d) ∷ [])) (filter P (numbered_from ((i + 1) + 1) (drop (i + 1) levels)))
     ∙ ap (λ xs. found ++ xs) (sym (next_level P levels i d h))
     ∙ f
-
--- one element more
-pub one_more : {A : Type 0} (xs : List A) (i : ℕ) (d : A) → i < length xs → take (i + 1) xs ≡ take i xs ++ get_or xs i d ∷ []
-one_more xs i d h = rw add-one (take-suc xs i d h)
-
--- the variables of one binding more
-pub next_binding : (b : ℕ → Tree) (xs : List ℕ) (i d : ℕ) → i < length xs
-    → insert_all nat_eq (each_once (flat_map occurrences (map b (take i xs)))) (variables (b (get_or xs i d))) ≡ each_once (flat_map occurrences (map b (take (i + 1) xs)))
-next_binding b xs i d h =
-    let more : map b (take (i + 1) xs) ≡ map b (take i xs) ++ b (get_or xs i d) ∷ [] =
-    ap (map b) (one_more xs i d h) ∙ map-append b (take i xs) (get_or xs i d ∷ []) in
-    once_more (flat_map occurrences (map b (take i xs))) (occurrences (b (get_or xs i d)))
-    ∙ ap each_once
-    (ap (λ ys. flat_map occurrences (map b (take i xs)) ++ ys) (sym (append-nil (occurrences (b (get_or xs i d)))))
-    ∙ sym (flat_map-append occurrences (map b (take i xs)) (b (get_or xs i d) ∷ []))
-    ∙ ap (flat_map occurrences) (sym more))
 
 -- the variables of the trees of labels
 abbrev pub of_labels : List Label → List ℕ

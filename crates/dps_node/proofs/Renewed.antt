@@ -17,10 +17,10 @@ use Rattle.dps_unify.specs.Order.{level_of}
 use Rattle.dps_know.specs.Know.{know_under}
 use Rattle.dps_solver.specs.Solutions.{valued}
 use Rattle.dps_node.specs.Node.{Node, SymbolicConfig, label_under, variables_of}
-use Rattle.dps_node.specs.Numbering.{is_among, counted_as, as_variable}
+use Rattle.dps_renewal.specs.Numbering.{is_among, counted_as, as_variable}
 use Rattle.dps_node.specs.Splits.{binding, new_variables, new_levels, disequation_under, BindsNoneOf, IsConfigUnder, Applies}
-use Rattle.dps_node.specs.Putting.{change, PutsFor, PutsNothing, changes}
-use Rattle.dps_node.proofs.Put.{among_bound, put_image, change_none}
+use Rattle.dps_renewal.specs.Putting.{change, PutsFor, PutsNothing, changes}
+use Rattle.dps_renewal.proofs.Puts.{among_bound, put_image, change_none}
 
 abbrev numbers_in : List (ℕ × ℕ) → List ℕ
 numbers_in ps = map (λ (p : ℕ × ℕ). p.0) ps
@@ -83,7 +83,7 @@ pub captures_none : (by puts : List (ℕ × Tree)) (xs : List ℕ) (g : List Tre
     → CapturesNone puts p
 captures_none by puts xs g c p h apart e there x u at =
     let b = among_bound (valued g (image by)) xs x u puts h at in
-    subst (λ t. EachBinder (λ y. ¬ StandsIn (var y) t) p) (sym (b.1.0)) (apart g p x e there (λ k. b.1.1 (ap (put_entries g) k)))
+    subst (λ t. EachBinder (λ y. ¬ StandsIn (var y) t) p) (sym b.1) (apart g p x e there (λ k. b.2 (ap (put_entries g) k)))
 
 -- the kid with what is put
 pub applies : (node kid : Node) (b z : ℕ → Tree) → z ≡ binding node b

@@ -7,7 +7,7 @@ use Rattle.dps_terms.specs.Replace.{substitute, numbered, variables_to, entries_
 use Rattle.dps_terms.proofs.Replacing.{replace_agrees}
 use Rattle.dps_solver.specs.Solutions.{valued}
 use Rattle.dps_node.specs.Splits.{HasOlderEntries}
-use Rattle.dps_node.proofs.Numbered.{one_more}
+use Rattle.dps_renewal.proofs.EachOnce.{one_more}
 
 slice_more : (xs ys : List Tree) (k : ℕ) → k < length xs → slice_get (xs ++ ys) k ≡ slice_get xs k
 slice_more [] ys k h = absurd (omega (arith, h))

@@ -1,5 +1,4 @@
 pub mod Node
-pub mod Numbering
 pub mod Splits
 pub mod Words
 pub mod Meaning
@@ -8,7 +7,6 @@ pub mod Pruning
 pub mod Truth
 pub mod Invariant
 pub mod Code
-pub mod Putting
 pub mod Outcome
 pub mod Settling
 pub mod Knowing

@@ -11,7 +11,7 @@ use Rattle.dps_know.specs.Know.{know_under}
 use Rattle.dps_solver.specs.Scene.{Disequation}
 use Rattle.dps_solver.specs.Solutions.{valued, IsValuation}
 use Rattle.dps_node.specs.Node.{SymbolicConfig, Node, label_under, variables_of, scene_of, with_configs}
-use Rattle.dps_node.specs.Numbering.{is_among, counted_as, as_variable, variables_in, least}
+use Rattle.dps_renewal.specs.Numbering.{is_among, counted_as, as_variable, variables_in, least}
 
 -- what each of the node's variables becomes
 abbrev pub bound_trees : Node → (ℕ → Tree) → List Tree

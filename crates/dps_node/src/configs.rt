@@ -7,14 +7,14 @@ ghost use Rattle.dps_process.specs.Process.{Process, replace_in};
 ghost use Rattle.dps_process.specs.Binders.{CapturesNone};
 ghost use Rattle.dps_node.specs.Node.{Node, SymbolicConfig};
 ghost use Rattle.dps_node.specs.Splits.{BindsNoneOf, HasOlderEntries, IsConfigUnder};
-ghost use Rattle.dps_node.specs.Putting.{PutsNothing};
+ghost use Rattle.dps_renewal.specs.Putting.{PutsNothing};
 ghost use Rattle.dps_node.specs.Code.{config_of};
 
 use crate::SymConfig;
-use crate::renewal::Renewal;
 use crate::replaced::trees_under;
 use crate::valuation::{put_values, values_under};
 use dps_process::Process;
+use dps_renewal::Renewal;
 use dps_terms::{NoMemory, Subst};
 use std::alloc::Global;
 

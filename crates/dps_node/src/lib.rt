@@ -3,18 +3,15 @@
 #![tactic(auto)]
 
 mod beginning;
-mod bindings;
 mod configs;
 mod consistency;
 mod copying;
 mod examples;
 mod labels;
 mod laws;
-mod levels;
 mod node;
 mod numbering;
 mod parts;
-mod renewal;
 mod replaced;
 mod scenes;
 mod splits;

@@ -5,14 +5,15 @@ ghost use Rattle.dps_terms.specs.Tree.{Tree};
 ghost use Rattle.dps_terms.specs.Bindings.{image};
 ghost use Rattle.dps_solver.specs.Code.{disequation_of};
 ghost use Rattle.dps_node.specs.Splits.{CanSplit, Applies, IsSplit, excluded, exclusion};
-ghost use Rattle.dps_node.specs.Putting.{IsRenewal, changes};
-ghost use Rattle.dps_node.specs.Code.{node_of};
+ghost use Rattle.dps_renewal.specs.Putting.{changes};
+ghost use Rattle.dps_node.specs.Code.{IsRenewal, node_of};
 
 use crate::Node;
 use crate::configs::configs_under;
 use crate::labels::labels_under;
-use crate::renewal::{Renewal, renew};
+use crate::numbering::variables;
 use crate::replaced::disequations_under;
+use dps_renewal::{Renewal, renew};
 use dps_solver::Disequation;
 use dps_terms::{NoMemory, Subst, Term};
 use std::alloc::{AllocError, Global};
@@ -23,13 +24,21 @@ pub fn split(alloc: Global, node: Node, bindings: &Subst) -> Result<Vec<Node>, N
     requires { CanSplit (node_of node) (image bindings.now) }
     ensures { IfOk result (λ kids. IsSplit (node_of node) (image bindings.now) (map node_of kids.items)) }
 {
-    let renewal = renew(alloc, &node, bindings)?;
+    let renewal = renewal_of(alloc, &node, bindings)?;
     let first = applied(alloc, &node, &renewal)?;
     let second = excluded_from(alloc, node, renewal)?;
     let mut kids = Vec::with_capacity(alloc, 2)?;
     kids.push(first)?;
     kids.push(second)?;
     Ok(kids)
+}
+
+/// What becomes of the node's variables.
+fn renewal_of(alloc: Global, node: &Node, bindings: &Subst) -> Result<Renewal, NoMemory>
+    ensures { IfOk result (λ r. IsRenewal (node_of node.now) (image bindings.now) r) }
+{
+    let variables = variables(alloc, node)?;
+    renew(alloc, &variables, node.levels.len() as u64 + 1, bindings)
 }
 
 /// The node with the bindings put everywhere.

@@ -6,9 +6,9 @@ ghost use Rattle.dps_terms.specs.Bindings.{image};
 ghost use Rattle.dps_terms.specs.Replace.{substitute, numbered, put_entries};
 ghost use Rattle.dps_solver.specs.Solutions.{valued as valued_of};
 ghost use Rattle.dps_node.specs.Splits.{HasOlderEntries};
-ghost use Rattle.dps_node.specs.Putting.{PutsFor};
+ghost use Rattle.dps_renewal.specs.Putting.{PutsFor};
 
-use crate::renewal::put;
+use dps_renewal::put;
 use dps_terms::{NoMemory, Replacement, Subst, Term, TermLeaf, TermStack};
 use std::alloc::Global;
 
@@ -108,7 +108,7 @@ fn entry_value(values: &[Term], number: u64) -> Option<&Term>
 }
 
 /// Puts the values of the variables' trees.
-#[tactic(auto, using(crate::proofs::Put::put_next, crate::proofs::Put::put_first))]
+#[tactic(auto, using(dps_renewal::proofs::Puts::put_next, dps_renewal::proofs::Puts::put_first))]
 pub(crate) fn put_values(
     alloc: Global,
     valued: &mut Subst,

@@ -58,7 +58,7 @@ struct FreshNames {
 
 impl Replacement for FreshNames {
     ghost use Rattle.dps_terms.specs.Replace.{variables_to};
-    ghost use Rattle.dps_node.specs.Numbering.{counted_as, as_own_name};
+    ghost use Rattle.dps_renewal.specs.Numbering.{counted_as, as_own_name};
 
     ghost becomes = { λ names. variables_to (counted_as as_own_name 1 names.variables.keys) };
 

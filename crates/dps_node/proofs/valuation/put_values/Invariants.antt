@@ -1,7 +1,7 @@
 use Rattle.std.proofs.Common.{ℕ, List, ◌++◌, take}
 use Rattle.dps_terms.specs.Bindings.{image}
 use Rattle.dps_solver.specs.Solutions.{valued}
-use Rattle.dps_node.specs.Putting.{PutsFor}
+use Rattle.dps_renewal.specs.Putting.{PutsFor}
 use Rattle.dps_node.proofs.valuation.put_values.Given as goal
 
 abbrev pub invariant-loop-variable : goal.invariant-loop-variable
