@@ -16,4 +16,5 @@ pub mod Splitting
 pub mod Entries
 pub mod Opening
 pub mod Renewed
+pub mod Mapped
 pub mod Valuing

@@ -1,7 +1,7 @@
 -- What becomes of a node's variables in a split, as the code finds it.
 use Rattle.std.proofs.Common.{◌≡◌, ℕ, ◌+◌, suc, Bool, true, false, cond, not, ◌||◌, nat_eq, List, [], ◌∷◌, ◌++◌, Option, Some, None, length, map, filter, filter_map, option_map, unwrap_or, refl, ap, sym, subst, ◌∙◌, inl, inr, eq-eqb}
-use Rattle.std.specs.Prelude.{◌≢◌, ◌⊎◌, Contains}
-use Rattle.std.specs.List.{flat_map, list_any, cons_option, AllZip}
+use Rattle.std.specs.Prelude.{◌≢◌, ◌⊎◌, All, Contains}
+use Rattle.std.specs.List.{flat_map, list_any, cons_option, range_with_len, AllZip}
 use Rattle.std.proofs.Math.Dec.{eqb}
 use Rattle.std.proofs.lemmas.Bool.Decides.{eqb_tells}
 use Rattle.std.proofs.lemmas.List.Folds.{list_any-append}
@@ -15,15 +15,15 @@ use Rattle.dps_process.specs.Process.{Process, EachBinder}
 use Rattle.dps_process.specs.Binders.{CapturesNone}
 use Rattle.dps_unify.specs.Order.{level_of}
 use Rattle.dps_know.specs.Know.{know_under}
+use Rattle.dps_solver.specs.Scene.{Disequation}
 use Rattle.dps_solver.specs.Solutions.{valued}
 use Rattle.dps_node.specs.Node.{Node, SymbolicConfig, label_under, variables_of}
 use Rattle.dps_renewal.specs.Numbering.{is_among, counted_as, as_variable}
-use Rattle.dps_node.specs.Splits.{binding, new_variables, new_levels, disequation_under, BindsNoneOf, IsConfigUnder, Applies}
-use Rattle.dps_renewal.specs.Putting.{change, PutsFor, PutsNothing, changes}
-use Rattle.dps_renewal.proofs.Puts.{among_bound, put_image, change_none}
-
-abbrev numbers_in : List (ℕ × ℕ) → List ℕ
-numbers_in ps = map (λ (p : ℕ × ℕ). p.0) ps
+use Rattle.dps_renewal.specs.declared.renewal.Renewal.{Renewal}
+use Rattle.dps_node.specs.Code.{IsRenewal}
+use Rattle.dps_node.specs.Splits.{binding, new_variables, new_levels, disequation_under, HasOlderEntries, BindsNoneOf, CanSplit, IsConfigUnder, Applies, exclusion}
+use Rattle.dps_renewal.specs.Putting.{change, PutsFor, PutsNothing, changes, numbers_in}
+use Rattle.dps_renewal.proofs.Puts.{among_bound, put_image, change_none, puts_nothing, nothing_put}
 
 neither : (a b : Bool) → (a || b) ≡ false → (a ≡ false) × (b ≡ false)
 neither true b e = cc
@@ -34,15 +34,6 @@ among_neither x xs ys e = neither (is_among x xs) (is_among x ys) (sym (list_any
 
 among_first : (x : ℕ) (xs ys : List ℕ) → is_among x xs ≡ true → is_among x (xs ++ ys) ≡ true
 among_first x xs ys e = list_any-append (nat_eq x) xs ys ∙ ap (λ b. b || is_among x ys) e
-
--- the new variables are those that the code finds
-pub fresh_are_new : (node : Node) (b : ℕ → Tree) (own fresh : List ℕ) → own ≡ numbers_in (variables_of node)
-    → fresh ≡ filter (λ y. not (is_among y own)) (each_once (flat_map occurrences (map b own)))
-    → fresh ≡ new_variables node b
-fresh_are_new node b own fresh o f =
-    f
-    ∙ ap (λ xs. filter (λ y. not (is_among y xs)) (each_once (flat_map occurrences (map b xs)))) o
-    ∙ ap (λ ts. filter (λ y. not (is_among y (numbers_in (variables_of node)))) (each_once (flat_map occurrences ts))) (map-map b (λ (p : ℕ × ℕ). p.0) (variables_of node))
 
 -- a number that is not listed is counted as itself
 counted_out : (s : ℕ → Tree) (n : ℕ) (xs : List ℕ) (y : ℕ) → is_among y xs ≡ false → counted_as s n xs y ≡ leaf (var y)
@@ -77,6 +68,17 @@ binding_image node b by own h = put_image (binding node b) (numbers_in (variable
 -- values put for variables
 pub valued_image : (by puts : List (ℕ × Tree)) (xs : List ℕ) (g : List Tree) → PutsFor (valued g (image by)) xs puts → PutsNothing xs by → image puts ≡ valued g (image by)
 valued_image by puts xs g h none = put_image (valued g (image by)) xs puts h (λ x e. ap (λ o. put_entries g (unwrap_or o (leaf (var x)))) (none x e))
+
+pub puts_both : (z : ℕ → Tree) (g first_g second_g : List Tree) (first second own fresh : List ℕ) (empty one two : List (ℕ × Tree))
+    → first_g ≡ g → second_g ≡ g → first ≡ own → second ≡ fresh → empty ≡ []
+    → ((xs : List ℕ) → PutsFor (valued first_g z) xs empty → PutsFor (valued first_g z) (xs ++ first) one)
+    → ((xs : List ℕ) → PutsFor (valued second_g z) xs one → PutsFor (valued second_g z) (xs ++ second) two)
+    → PutsFor (valued g z) (own ++ fresh) two
+puts_both z g first_g second_g first second own fresh empty one two fg sg f s e h k =
+    let none : PutsFor (valued first_g z) [] empty = subst (PutsFor (valued first_g z) []) (sym e) (nothing_put (valued first_g z)) in
+    let after : PutsFor (valued second_g z) first one = subst (λ w. PutsFor (valued w z) first one) (fg ∙ sym sg) (h [] none) in
+    let both : PutsFor (valued g z) (first ++ second) two = subst (λ w. PutsFor (valued w z) (first ++ second) two) sg (k first after) in
+    subst (λ xs. PutsFor (valued g z) xs two) (λ i. f i ++ s i) both
 
 pub captures_none : (by puts : List (ℕ × Tree)) (xs : List ℕ) (g : List Tree) (c : SymbolicConfig) (p : Process)
     → PutsFor (valued g (image by)) xs puts → BindsNoneOf (image by) c → g ≡ map (substitute (valued g (image by))) c.values → Contains c.parts p
@@ -135,3 +137,29 @@ pub changes_are : (node : Node) (b : ℕ → Tree) (by : List (ℕ × Tree)) →
 changes_are node b by h =
     changes_by (binding node b) by (variables_of node)
     (λ x e. h x ∙ ap (λ c. cond c (change (binding node b) x) None) (among_first x (numbers_in (variables_of node)) (new_variables node b) e))
+
+-- what the bindings of a split may be put into
+module _ (node : Node) (b : ℕ → Tree) (r : Renewal) (can : CanSplit node b) (h : IsRenewal node b r) where
+  pub renewal_image : image r.by ≡ binding node b
+  renewal_image = binding_image node b r.by can.own h.put
+
+  pub older_put : All (λ (c : SymbolicConfig). HasOlderEntries (image r.by) c.values) node.configs
+  older_put = subst (λ z. All (λ (c : SymbolicConfig). HasOlderEntries z c.values) node.configs) (sym renewal_image) can.older
+
+  pub apart_put : All (BindsNoneOf (image r.by)) node.configs
+  apart_put = subst (λ z. All (BindsNoneOf z) node.configs) (sym renewal_image) can.apart
+
+pub only_put : (node : Node) (b : ℕ → Tree) (r : Renewal) → IsRenewal node b r → PutsNothing (r.own.items ++ r.fresh.keys) r.by
+only_put node b r h =
+    subst (λ xs. PutsNothing xs r.by) (λ i. (sym h.own) i ++ (sym h.fresh) i)
+    (puts_nothing (binding node b) (numbers_in (variables_of node) ++ new_variables node b) r.by h.put)
+
+-- the disequation of a split, by its parts
+pub exclusion_is : (node : Node) (b : ℕ → Tree) (r : Renewal) (d : Disequation) (first count : ℕ) (own : List ℕ) → IsRenewal node b r
+    → first ≡ length node.levels + 1 → count ≡ length r.fresh.keys → own ≡ r.own.items
+    → d.free ≡ range_with_len first count → d.pairs ≡ changes r.by own → d ≡ exclusion node b
+exclusion_is node b r d first count own h f n o free pairs =
+    let free_is : d.free ≡ range_with_len (length node.levels + 1) (length (new_variables node b)) =
+    free ∙ (λ i. range_with_len (f i) ((n ∙ ap length h.fresh) i)) in
+    let pairs_is = pairs ∙ (ap (changes r.by) (o ∙ h.own) ∙ changes_are node b r.by h.put) in
+    λ i. record { free = free_is i; pairs = pairs_is i }

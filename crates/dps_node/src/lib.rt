@@ -13,7 +13,6 @@ mod node;
 mod numbering;
 mod parts;
 mod replaced;
-mod scenes;
 mod splits;
 mod valuation;
 mod words;
@@ -32,6 +31,5 @@ pub use laws::{
 pub use node::{Node, SymConfig};
 pub use numbering::variables;
 pub use parts::partition;
-pub use scenes::scene;
 pub use splits::split;
 pub use words::ground_trace;

@@ -1,12 +1,12 @@
 //! Splits of a node on bindings of its variables.
-ghost use Rattle.std.specs.Prelude.{◌≡◌, ◌++◌, ◌∷◌, [], map, ℕ, IfOk, OnOk};
+ghost use Rattle.std.specs.Prelude.{◌≡◌, ◌++◌, ◌∷◌, [], All, map, ℕ, IfOk, OnOk};
 ghost use Rattle.std.specs.List.{range_with_len};
 ghost use Rattle.dps_terms.specs.Tree.{Tree};
 ghost use Rattle.dps_terms.specs.Bindings.{image};
 ghost use Rattle.dps_solver.specs.Code.{disequation_of};
-ghost use Rattle.dps_node.specs.Splits.{CanSplit, Applies, IsSplit, excluded, exclusion};
-ghost use Rattle.dps_renewal.specs.Putting.{changes};
-ghost use Rattle.dps_node.specs.Code.{IsRenewal, node_of};
+ghost use Rattle.dps_node.specs.Splits.{CanSplit, Applies, IsSplit, BindsNoneOf, HasOlderEntries, excluded, exclusion};
+ghost use Rattle.dps_renewal.specs.Putting.{PutsNothing, changes};
+ghost use Rattle.dps_node.specs.Code.{IsRenewal, config_of, node_of};
 
 use crate::Node;
 use crate::configs::configs_under;
@@ -43,6 +43,9 @@ fn renewal_of(alloc: Global, node: &Node, bindings: &Subst) -> Result<Renewal, N
 
 /// The node with the bindings put everywhere.
 fn applied(alloc: Global, node: &Node, renewal: &Renewal) -> Result<Node, NoMemory>
+    requires older { All (λ c. HasOlderEntries (image renewal.now.by) c.values) (map config_of node.now.configs.items) }
+    requires apart { All (BindsNoneOf (image renewal.now.by)) (map config_of node.now.configs.items) }
+    requires only { PutsNothing (renewal.now.own.items ++ renewal.now.fresh.keys) renewal.now.by }
     ensures { (bindings : ℕ → Tree) → IsRenewal (node_of node.now) bindings renewal.now → CanSplit (node_of node.now) bindings → IfOk result (λ kid. Applies (node_of node.now) bindings (node_of kid)) }
 {
     let by = &renewal.by;
