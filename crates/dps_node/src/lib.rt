@@ -13,6 +13,7 @@ mod node;
 mod numbering;
 mod parts;
 mod replaced;
+mod scenes;
 mod splits;
 mod valuation;
 mod words;
@@ -31,5 +32,6 @@ pub use laws::{
 pub use node::{Node, SymConfig};
 pub use numbering::variables;
 pub use parts::partition;
+pub use scenes::scene;
 pub use splits::split;
 pub use words::ground_trace;
