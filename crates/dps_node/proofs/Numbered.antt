@@ -1,13 +1,11 @@
 -- How the variables of a node are found.
 use Rattle.std.proofs.Common.{◌≡◌, ℕ, ◌+◌, ◌<◌, List, [], ◌∷◌, ◌++◌, Bool, length, get_or, take, drop, filter, filter_map, map, nat_eq, ap, sym, ◌∙◌, add-one, drop-cons, append_assoc, suc}
 use Rattle.std.specs.List.{flat_map}
-use Rattle.std.proofs.Math.Seq.{take-suc}
 use Rattle.std.proofs.lemmas.Grind.{flat_map-append}
 use Rattle.std.proofs.lemmas.List.{map-append, append-nil}
 use Rattle.std.proofs.lemmas.List.Elements.{filter-append, filter_map-append}
 use Rattle.indexmap.specs.IndexSet.{insert_all}
-use Rattle.dps_terms.specs.Tree.{Tree}
-use Rattle.dps_terms.specs.Variables.{occurrences, each_once, variables}
+use Rattle.dps_terms.specs.Variables.{occurrences, each_once}
 use Rattle.dps_process.specs.Steps.{Label, inputs, outputs, overhears}
 use Rattle.dps_process.specs.Labels.{label_of}
 use Rattle.dps_process.specs.declared.label.Label.{Label as LabelValue}

@@ -1,16 +1,14 @@
 -- What becomes of a node's variables in a split, as the code finds it.
-use Rattle.std.proofs.Common.{◌≡◌, ℕ, ◌+◌, suc, Bool, true, false, cond, not, ◌||◌, nat_eq, List, [], ◌∷◌, ◌++◌, Option, Some, None, length, map, filter, filter_map, option_map, unwrap_or, refl, ap, sym, subst, ◌∙◌, inl, inr, eq-eqb}
+use Rattle.std.proofs.Common.{◌≡◌, ℕ, ◌+◌, Bool, true, false, cond, not, ◌||◌, nat_eq, List, [], ◌∷◌, ◌++◌, Some, None, length, map, filter, option_map, unwrap_or, refl, ap, sym, subst, ◌∙◌, inl, inr, eq-eqb}
 use Rattle.std.specs.Prelude.{◌≢◌, ◌⊎◌, All, Contains}
-use Rattle.std.specs.List.{flat_map, list_any, cons_option, range_with_len, AllZip}
+use Rattle.std.specs.List.{cons_option, range_with_len, AllZip}
 use Rattle.std.proofs.Math.Dec.{eqb}
 use Rattle.std.proofs.lemmas.Bool.Decides.{eqb_tells}
 use Rattle.std.proofs.lemmas.List.Folds.{list_any-append}
-use Rattle.std.proofs.lemmas.Simd.{map-map}
 use Rattle.dps_terms.specs.Tree.{var, Tree, leaf, StandsIn}
 use Rattle.dps_terms.specs.Bindings.{bound, image}
 use Rattle.dps_terms.specs.Replace.{substitute, put_entries}
 use Rattle.dps_terms.specs.Same.{same}
-use Rattle.dps_terms.specs.Variables.{occurrences, each_once}
 use Rattle.dps_process.specs.Process.{Process, EachBinder}
 use Rattle.dps_process.specs.Binders.{CapturesNone}
 use Rattle.dps_unify.specs.Order.{level_of}
@@ -23,7 +21,7 @@ use Rattle.dps_renewal.specs.declared.renewal.Renewal.{Renewal}
 use Rattle.dps_node.specs.Code.{IsRenewal}
 use Rattle.dps_node.specs.Splits.{binding, new_variables, new_levels, disequation_under, HasOlderEntries, BindsNoneOf, CanSplit, IsConfigUnder, Applies, exclusion}
 use Rattle.dps_renewal.specs.Putting.{change, PutsFor, PutsNothing, changes, numbers_in}
-use Rattle.dps_renewal.proofs.Puts.{among_bound, put_image, change_none, puts_nothing, nothing_put}
+use Rattle.dps_renewal.proofs.Puts.{among_bound, put_image, puts_nothing, nothing_put}
 
 neither : (a b : Bool) → (a || b) ≡ false → (a ≡ false) × (b ≡ false)
 neither true b e = cc

@@ -1,6 +1,6 @@
 -- How the word of a node is made.
-use Rattle.std.proofs.Common.{◌≡◌, ℕ, ◌+◌, ◌<◌, List, [], ◌∷◌, ◌++◌, Bool, true, false, cond, Some, None, length, get_or, take, filter, filter_map, map, nat_eq, refl, ap, sym, ◌∙◌, arith}
-use Rattle.std.specs.List.{flat_map, position, position_from}
+use Rattle.std.proofs.Common.{◌≡◌, ℕ, ◌+◌, ◌<◌, List, [], ◌∷◌, ◌++◌, true, Some, None, length, get_or, take, filter, filter_map, map, nat_eq, refl, ap, sym, ◌∙◌}
+use Rattle.std.specs.List.{flat_map, position}
 use Rattle.std.proofs.lemmas.Iterator.Adapters.{position_from-zero}
 use Rattle.std.proofs.Math.Dec.{eqb}
 use Rattle.std.proofs.lemmas.List.{map-append}
@@ -11,7 +11,7 @@ use Rattle.dps_process.specs.Steps.{Label}
 use Rattle.dps_process.specs.Labels.{label_of}
 use Rattle.dps_process.specs.declared.label.Label.{Label as LabelValue}
 use Rattle.dps_node.specs.Node.{Node, label_tree, label_under}
-use Rattle.dps_renewal.specs.Numbering.{counted_as, as_own_name, as_variable}
+use Rattle.dps_renewal.specs.Numbering.{counted_as, as_own_name}
 use Rattle.dps_node.specs.Words.{word_recipes, names_for, ground_word}
 use Rattle.dps_renewal.proofs.EachOnce.{one_more}
 use Rattle.dps_renewal.proofs.Counted.{at_place, at_none}

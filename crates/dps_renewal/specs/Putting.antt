@@ -1,7 +1,7 @@
 -- What is put for variables whose trees have new variables.
 use Rattle.std.specs.Prelude.{◌≡◌, ℕ, min, not, false, if◌then◌else◌, List, ◌++◌, Option, Some, None, map, filter, filter_map, option_map}
 use Rattle.dps_terms.specs.Tree.{var, Tree, leaf}
-use Rattle.dps_terms.specs.Bindings.{bound, image}
+use Rattle.dps_terms.specs.Bindings.{bound}
 use Rattle.dps_terms.specs.Replace.{substitute}
 use Rattle.dps_terms.specs.Same.{same}
 use Rattle.dps_terms.specs.Variables.{occurrences}

@@ -1,11 +1,9 @@
-use Rattle.std.proofs.Common.{◌≡◌, [], ◌++◌, List, map, refl, ap, sym, subst, ◌∙◌}
+use Rattle.std.proofs.Common.{◌≡◌, ◌++◌, map, refl, ap, subst, ◌∙◌}
 use Rattle.std.specs.Prelude.{Contains}
-use Rattle.dps_terms.specs.Tree.{Tree}
 use Rattle.dps_terms.specs.Bindings.{image}
 use Rattle.dps_terms.specs.Replace.{substitute, variables_to}
 use Rattle.dps_process.specs.Process.{replace_in}
 use Rattle.dps_solver.specs.Solutions.{valued}
-use Rattle.dps_renewal.specs.Putting.{PutsFor}
 use Rattle.dps_node.specs.Code.{config_of}
 use Rattle.dps_node.proofs.Renewed.{puts_both, valued_image, captures_none}
 use Rattle.dps_node.proofs.configs.config_under.Goals as goal

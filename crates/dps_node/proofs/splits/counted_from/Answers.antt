@@ -1,4 +1,3 @@
-use Rattle.std.proofs.Common.{◌≡◌, ◌+◌, ◌++◌, [], ◌∷◌, ap, sym, ◌∙◌}
 use Rattle.dps_node.proofs.Mapped.{counted_more}
 use Rattle.dps_node.proofs.splits.counted_from.Goals as goal
 

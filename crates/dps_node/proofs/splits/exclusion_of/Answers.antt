@@ -1,4 +1,4 @@
-use Rattle.std.proofs.Common.{◌+◌, ap, ◌∙◌, arith}
+use Rattle.std.proofs.Common.{◌+◌, arith}
 use Rattle.dps_solver.specs.Code.{disequation_of}
 use Rattle.dps_node.specs.Code.{node_of}
 use Rattle.dps_node.proofs.Renewed.{exclusion_is}

@@ -1,4 +1,4 @@
-use Rattle.std.proofs.Common.{◌≡◌, get_or, ap, ◌∙◌}
+use Rattle.std.proofs.Common.{◌≡◌, get_or, ◌∙◌}
 use Rattle.dps_terms.specs.Bindings.{image}
 use Rattle.dps_terms.specs.Replace.{substitute}
 use Rattle.dps_solver.specs.Solutions.{valued}

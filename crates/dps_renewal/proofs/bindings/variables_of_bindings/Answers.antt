@@ -1,4 +1,4 @@
-use Rattle.std.proofs.Common.{◌≡◌, ◌+◌, nat_eq, map, take, get_or, ap, ◌∙◌}
+use Rattle.std.proofs.Common.{◌≡◌, nat_eq, map, take, get_or, ap, ◌∙◌}
 use Rattle.std.specs.List.{flat_map}
 use Rattle.indexmap.specs.IndexSet.{insert_all}
 use Rattle.dps_terms.specs.Bindings.{image}

@@ -1,4 +1,4 @@
-use Rattle.std.proofs.Common.{◌++◌, take, get_or}
+use Rattle.std.proofs.Common.{◌++◌, take}
 use Rattle.dps_terms.specs.Bindings.{image}
 use Rattle.dps_renewal.specs.Putting.{renewed}
 use Rattle.dps_renewal.proofs.Puts.{put_next}

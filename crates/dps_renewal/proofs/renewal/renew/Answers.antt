@@ -1,4 +1,4 @@
-use Rattle.std.proofs.Common.{◌≡◌, [], ◌++◌, ap, sym, subst, ◌∙◌}
+use Rattle.std.proofs.Common.{◌≡◌, [], ◌++◌, sym, subst, ◌∙◌}
 use Rattle.dps_terms.specs.Bindings.{image}
 use Rattle.dps_renewal.specs.Putting.{PutsFor, renewed, numbers_in, fresh_in}
 use Rattle.dps_renewal.proofs.Puts.{nothing_put}
