@@ -22,9 +22,9 @@ use Rattle.dps_directions.proofs.SceneCourse.{level_listed}
 use Rattle.dps_directions.proofs.Outcomes.{binding_at, binding_else, free_in_binding}
 use Rattle.dps_directions.proofs.Directed.{outcome_of}
 use Rattle.dps_node.specs.Node.{SymbolicConfig, Node, label_trees, variables_of, system_of, scene_of}
-use Rattle.dps_node.specs.Numbering.{is_among, counted_as, as_variable}
+use Rattle.dps_renewal.specs.Numbering.{is_among, counted_as, as_variable}
 use Rattle.dps_node.specs.Splits.{bound_trees, new_variables, binding}
-use Rattle.dps_node.proofs.EachOnce.{among_once}
+use Rattle.dps_renewal.proofs.EachOnce.{among_once}
 use Rattle.dps_faithful.proofs.Lists.{among_true}
 use Rattle.dps_faithful.proofs.Levels.{occurrence_stands, level_is_listed, listed_level, same_level}
 

@@ -11,7 +11,7 @@ use Rattle.dps_terms.specs.Same.{same, same-true, same-self}
 use Rattle.dps_unify.specs.Matching.{Keeps}
 use Rattle.dps_unify.proofs.Trees.{substitute_agrees}
 use Rattle.dps_symeval.proofs.Listed.{contains_none, contains_first, contains_later, contains_cases}
-use Rattle.dps_node.specs.Numbering.{is_among}
+use Rattle.dps_renewal.specs.Numbering.{is_among}
 use Rattle.dps_solver.specs.Solutions.{IsMatched}
 use Rattle.dps_directions.proofs.Respecting.{contains_or_not}
 use Rattle.dps_faithful.proofs.Lists.{among_true}

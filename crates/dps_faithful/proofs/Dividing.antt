@@ -26,7 +26,7 @@ use Rattle.dps_directions.specs.Shapes.{IsListedFor}
 use Rattle.dps_directions.proofs.Beginning.{levels_cases}
 use Rattle.dps_directions.proofs.Respecting.{ground_stays}
 use Rattle.dps_node.specs.Node.{SymbolicConfig, Node, numbered_from, label_trees, variables_of, system_of, scene_of}
-use Rattle.dps_node.specs.Numbering.{is_among}
+use Rattle.dps_renewal.specs.Numbering.{is_among}
 use Rattle.dps_node.specs.Splits.{binding, new_variables, new_levels, IsConfigUnder, Applies, exclusion, excluded, IsSplit}
 use Rattle.dps_node.specs.Meaning.{IsSolutionOf, AgreesWith, IsOfFirstKid, SplitsSolutions}
 use Rattle.dps_node.specs.Invariant.{IsSound}

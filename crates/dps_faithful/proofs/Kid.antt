@@ -24,7 +24,7 @@ use Rattle.dps_directions.specs.Shapes.{IsListedFor}
 use Rattle.dps_directions.proofs.Beginning.{in_occurrences, levels_cases}
 use Rattle.dps_directions.proofs.Listing.{any_at}
 use Rattle.dps_node.specs.Node.{SymbolicConfig, Node, label_tree, label_trees, label_under, variables_of, scene_of}
-use Rattle.dps_node.specs.Numbering.{is_among, least}
+use Rattle.dps_renewal.specs.Numbering.{is_among, least}
 use Rattle.dps_node.specs.Splits.{new_level, new_levels, binding, Applies}
 use Rattle.dps_node.specs.Invariant.{IsSound}
 use Rattle.dps_faithful.proofs.Lists.{among_true, in_front, behind}

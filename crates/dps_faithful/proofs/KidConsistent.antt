@@ -23,7 +23,7 @@ use Rattle.dps_symeval.proofs.Listed.{mapped, from_mapped}
 use Rattle.dps_directions.specs.Shapes.{IsListedFor}
 use Rattle.dps_directions.proofs.Directed.{outcome_of}
 use Rattle.dps_node.specs.Node.{SymbolicConfig, Node, label_trees, variables_of, system_of, scene_of}
-use Rattle.dps_node.specs.Numbering.{is_among}
+use Rattle.dps_renewal.specs.Numbering.{is_among}
 use Rattle.dps_node.specs.Splits.{binding, disequation_under, Applies}
 use Rattle.dps_node.specs.Meaning.{IsTreeOver}
 use Rattle.dps_node.specs.Invariant.{HasNoOwnName, IsNodeTree, IsPatternLeafOf, IsSound}

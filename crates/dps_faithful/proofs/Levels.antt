@@ -13,7 +13,7 @@ use Rattle.dps_symeval.proofs.Listed.{contains_none, contains_first, contains_la
 use Rattle.dps_directions.proofs.Listing.{contains_any}
 use Rattle.dps_directions.proofs.Beginning.{in_occurrences}
 use Rattle.dps_node.specs.Node.{Node, numbered_from, label_trees, variables_of}
-use Rattle.dps_node.specs.Numbering.{is_among}
+use Rattle.dps_renewal.specs.Numbering.{is_among}
 use Rattle.dps_faithful.proofs.Lists.{among_true}
 
 -- what occurs in a tree stands in it

@@ -32,7 +32,7 @@ use Rattle.dps_directions.specs.Shapes.{IsListedFor, ExcludesBindings}
 use Rattle.dps_directions.proofs.Beginning.{levels_cases}
 use Rattle.dps_directions.proofs.Directed.{excluded_bindings}
 use Rattle.dps_node.specs.Node.{SymbolicConfig, Node, variables_of, system_of, scene_of}
-use Rattle.dps_node.specs.Numbering.{is_among}
+use Rattle.dps_renewal.specs.Numbering.{is_among}
 use Rattle.dps_node.specs.Splits.{binding, new_variables, new_level, IsConfigUnder, Applies, exclusion, excluded, IsSplit}
 use Rattle.dps_node.specs.Meaning.{IsTreeOver, IsSolutionOf, IsInstance, IsClosedInMeaning}
 use Rattle.dps_node.specs.Invariant.{messages_in, HasNoOwnName, IsNoOwnName, IsOfNode, IsNodeTree, IsMessageLeaf, IsNodeMessage, IsNodePart, IsEntryRecipeLeaf, IsPatternLeafOf, IsNodeDisequation, known_level, HasLevels, HasOlderParts, HasFacts, IsSound}

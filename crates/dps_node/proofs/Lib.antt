@@ -5,7 +5,6 @@ pub mod Telling
 pub mod Computing
 pub mod Trees
 pub mod Values
-pub mod EachOnce
 pub mod Numbered
 pub mod Worded
 pub mod Consisting
@@ -16,3 +15,6 @@ pub mod Rules
 pub mod Splitting
 pub mod Entries
 pub mod Opening
+pub mod Renewed
+pub mod Mapped
+pub mod Valuing

@@ -1,20 +1,18 @@
 -- How the variables of a node are found.
 use Rattle.std.proofs.Common.{◌≡◌, ℕ, ◌+◌, ◌<◌, List, [], ◌∷◌, ◌++◌, Bool, length, get_or, take, drop, filter, filter_map, map, nat_eq, ap, sym, ◌∙◌, add-one, drop-cons, append_assoc, suc}
 use Rattle.std.specs.List.{flat_map}
-use Rattle.std.proofs.Math.Seq.{take-suc}
 use Rattle.std.proofs.lemmas.Grind.{flat_map-append}
 use Rattle.std.proofs.lemmas.List.{map-append, append-nil}
 use Rattle.std.proofs.lemmas.List.Elements.{filter-append, filter_map-append}
 use Rattle.indexmap.specs.IndexSet.{insert_all}
-use Rattle.dps_terms.specs.Tree.{Tree}
-use Rattle.dps_terms.specs.Variables.{occurrences, each_once, variables}
+use Rattle.dps_terms.specs.Variables.{occurrences, each_once}
 use Rattle.dps_process.specs.Steps.{Label, inputs, outputs, overhears}
 use Rattle.dps_process.specs.Labels.{label_of}
 use Rattle.dps_process.specs.declared.label.Label.{Label as LabelValue}
 use Rattle.dps_node.specs.Code.{label_variables}
 use Rattle.dps_node.specs.Node.{Node, label_tree, label_trees, numbered_from, variables_of}
-use Rattle.dps_node.specs.Numbering.{is_among}
-use Rattle.dps_node.proofs.EachOnce.{once_more, among_once}
+use Rattle.dps_renewal.specs.Numbering.{is_among}
+use Rattle.dps_renewal.proofs.EachOnce.{once_more, among_once, one_more}
 
 -- the next number with its level
 pub next_level : (P : ℕ × ℕ → Bool) (levels : List ℕ) (i d : ℕ) → i < length levels → filter P (numbered_from (i + 1) (drop i levels)) ≡ filter P ((i + 1, get_or levels i d) ∷ []) ++ filter P (numbered_from ((i + 1) + 1) (drop (i + 1) levels))
@@ -33,18 +31,6 @@ level_found P levels found more i d h e f =
     ∙ append_assoc found (filter P ((i + 1, get_or levels i d) ∷ [])) (filter P (numbered_from ((i + 1) + 1) (drop (i + 1) levels)))
     ∙ ap (λ xs. found ++ xs) (sym (next_level P levels i d h))
     ∙ f
-
--- one element more
-pub one_more : {A : Type 0} (xs : List A) (i : ℕ) (d : A) → i < length xs → take (i + 1) xs ≡ take i xs ++ get_or xs i d ∷ []
-one_more xs i d h = rw add-one (take-suc xs i d h)
-
-pub next_tree : (ts : List Tree) (i : ℕ) (d : Tree) → i < length ts → insert_all nat_eq (each_once (flat_map occurrences (take i ts))) (variables (get_or ts i d)) ≡ each_once (flat_map occurrences (take (i + 1) ts))
-next_tree ts i d h =
-    once_more (flat_map occurrences (take i ts)) (occurrences (get_or ts i d))
-    ∙ ap each_once
-    (ap (λ xs. flat_map occurrences (take i ts) ++ xs) (sym (append-nil (occurrences (get_or ts i d))))
-    ∙ sym (flat_map-append occurrences (take i ts) (get_or ts i d ∷ []))
-    ∙ ap (flat_map occurrences) (sym (one_more ts i d h)))
 
 -- the variables of the trees of labels
 abbrev pub of_labels : List Label → List ℕ
@@ -74,3 +60,11 @@ filter_alike p q xs h = ap (λ t. filter t xs) (λ i x. h x i)
 -- what is found by the numbers, each once, is what stands in the trees
 pub levels_of_those : (node : Node) → filter (λ (p : ℕ × ℕ). is_among p.0 (each_once (flat_map occurrences (label_trees node)))) (numbered_from 1 node.levels) ≡ variables_of node
 levels_of_those node = filter_alike _ _ (numbered_from 1 node.levels) (λ p. among_once p.0 (flat_map occurrences (label_trees node)))
+
+-- the trees of one label more
+pub label_trees_more : (ls : List LabelValue) (i : ℕ) (d : LabelValue) → i < length ls
+    → filter_map label_tree (map label_of (take (i + 1) ls)) ≡ filter_map label_tree (map label_of (take i ls)) ++ filter_map label_tree (label_of (get_or ls i d) ∷ [])
+label_trees_more ls i d h =
+    ap (λ xs. filter_map label_tree (map label_of xs)) (one_more ls i d h)
+    ∙ ap (filter_map label_tree) (map-append label_of (take i ls) (get_or ls i d ∷ []))
+    ∙ filter_map-append label_tree (map label_of (take i ls)) (label_of (get_or ls i d) ∷ [])

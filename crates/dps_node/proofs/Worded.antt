@@ -1,6 +1,6 @@
 -- How the word of a node is made.
-use Rattle.std.proofs.Common.{◌≡◌, ℕ, ◌+◌, ◌<◌, List, [], ◌∷◌, ◌++◌, Bool, true, false, cond, Some, None, length, get_or, take, filter, filter_map, map, nat_eq, refl, ap, sym, ◌∙◌, arith}
-use Rattle.std.specs.List.{flat_map, position, position_from}
+use Rattle.std.proofs.Common.{◌≡◌, ℕ, ◌+◌, ◌<◌, List, [], ◌∷◌, ◌++◌, true, Some, None, length, get_or, take, filter, filter_map, map, nat_eq, refl, ap, sym, ◌∙◌}
+use Rattle.std.specs.List.{flat_map, position}
 use Rattle.std.proofs.lemmas.Iterator.Adapters.{position_from-zero}
 use Rattle.std.proofs.Math.Dec.{eqb}
 use Rattle.std.proofs.lemmas.List.{map-append}
@@ -11,9 +11,10 @@ use Rattle.dps_process.specs.Steps.{Label}
 use Rattle.dps_process.specs.Labels.{label_of}
 use Rattle.dps_process.specs.declared.label.Label.{Label as LabelValue}
 use Rattle.dps_node.specs.Node.{Node, label_tree, label_under}
-use Rattle.dps_node.specs.Numbering.{counted_as, as_own_name}
+use Rattle.dps_renewal.specs.Numbering.{counted_as, as_own_name}
 use Rattle.dps_node.specs.Words.{word_recipes, names_for, ground_word}
-use Rattle.dps_node.proofs.Numbered.{one_more}
+use Rattle.dps_renewal.proofs.EachOnce.{one_more}
+use Rattle.dps_renewal.proofs.Counted.{at_place, at_none}
 
 all_pass : (xs : List ℕ) → filter (λ y. true) xs ≡ xs
 all_pass [] = refl
@@ -30,30 +31,9 @@ labels_more_under f ls i d h =
     ∙ ap (map (label_under f)) (map-append label_of (take i ls) (get_or ls i d ∷ []))
     ∙ map-append (label_under f) (map label_of (take i ls)) (label_of (get_or ls i d) ∷ [])
 
--- a variable at a place of the list gets the number of the place
-at_place : (s : ℕ → Tree) (n k : ℕ) (xs : List ℕ) (y i : ℕ) → position_from (nat_eq y) k xs ≡ Some i → counted_as s (n + k) xs y ≡ s (n + i)
-at_place s n k [] y i e = cc
-at_place s n k (x ∷ xs) y i e = by (nat_eq y x) e (at_place s n (k + 1) xs y i)
-  where
-    by : (b : Bool) → cond b (Some k) (position_from (nat_eq y) (k + 1) xs) ≡ Some i
-        → (position_from (nat_eq y) (k + 1) xs ≡ Some i → counted_as s (n + (k + 1)) xs y ≡ s (n + i))
-        → cond b (s (n + k)) (counted_as s ((n + k) + 1) xs y) ≡ s (n + i)
-    by true f h = let d : k ≡ i = cc in ap (λ j. s (n + j)) d
-    by false f h = let d : (n + k) + 1 ≡ n + (k + 1) = omega arith in ap (λ j. counted_as s j xs y) d ∙ h f
-
+-- a variable at a place of the list gets the number of the place, and others stay
 pub placed : (xs : List ℕ) (y i : ℕ) → position (nat_eq y) xs ≡ Some i → counted_as as_own_name 1 xs y ≡ as_own_name (1 + i)
 placed xs y i e = at_place as_own_name 1 0 xs y i (sym (position_from-zero (nat_eq y) xs) ∙ e)
-
--- and one that stands nowhere stays
-at_none : (s : ℕ → Tree) (n k : ℕ) (xs : List ℕ) (y : ℕ) → position_from (nat_eq y) k xs ≡ None → counted_as s n xs y ≡ leaf (var y)
-at_none s n k [] y e = refl
-at_none s n k (x ∷ xs) y e = by (nat_eq y x) e (at_none s (n + 1) (k + 1) xs y)
-  where
-    by : (b : Bool) → cond b (Some k) (position_from (nat_eq y) (k + 1) xs) ≡ None
-        → (position_from (nat_eq y) (k + 1) xs ≡ None → counted_as s (n + 1) xs y ≡ leaf (var y))
-        → cond b (s n) (counted_as s (n + 1) xs y) ≡ leaf (var y)
-    by true f h = cc
-    by false f h = h f
 
 pub not_placed : (xs : List ℕ) (y : ℕ) → position (nat_eq y) xs ≡ None → counted_as as_own_name 1 xs y ≡ leaf (var y)
 not_placed xs y e = at_none as_own_name 1 0 xs y (sym (position_from-zero (nat_eq y) xs) ∙ e)

@@ -10,7 +10,7 @@ use Rattle.dps_theory.specs.Theory.{Rule, Theory}
 use Rattle.dps_know.specs.Know.{entry_at}
 use Rattle.dps_know.specs.declared.know.Entry.{Entry}
 use Rattle.dps_solver.specs.Search.{GeneralSolution}
-use Rattle.dps_node.specs.Numbering.{is_among, counted_as, as_rigid, variables_in}
+use Rattle.dps_renewal.specs.Numbering.{is_among, counted_as, as_rigid, variables_in}
 use Rattle.dps_node.specs.Node.{SymbolicConfig, Node, variables_of, scene_of, at_count}
 use Rattle.dps_node.specs.Splits.{IsSplit, partition}
 use Rattle.dps_node.specs.Questions.{Question, Found, value_of, tree_of, equal, tree, composition, instance, success, FindsAll, IsPlainlyFound, Answers, AnswersWhole, all_decided, divided, AsksEach}

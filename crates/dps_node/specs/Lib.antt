@@ -1,5 +1,4 @@
 pub mod Node
-pub mod Numbering
 pub mod Splits
 pub mod Words
 pub mod Meaning

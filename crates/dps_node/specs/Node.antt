@@ -10,7 +10,7 @@ use Rattle.dps_process.specs.Steps.{Label, inputs, outputs, overhears}
 use Rattle.dps_process.specs.Problem.{Problem}
 use Rattle.dps_know.specs.Know.{Knowledge}
 use Rattle.dps_solver.specs.Scene.{Disequation, System, Scene}
-use Rattle.dps_node.specs.Numbering.{is_among}
+use Rattle.dps_renewal.specs.Numbering.{is_among}
 
 -- a configuration whose terms may hold the node's variables, with the values of the entries in it, and whether its private
 -- communications stand in the node already

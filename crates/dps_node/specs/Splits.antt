@@ -1,16 +1,17 @@
 -- Splits of a node on bindings of its variables, and partitions of its configurations.
-use Rattle.std.specs.Prelude.{◌≡◌, ℕ, ◌+◌, Bool, true, false, not, List, [], ◌∷◌, ◌++◌, map, filter, length}
+use Rattle.std.specs.Prelude.{◌≡◌, ◌≢◌, ◌≤◌, ℕ, ◌+◌, Bool, true, false, not, List, [], ◌∷◌, ◌++◌, Some, None, map, filter, length, slice_get, All, Contains}
 use Rattle.std.specs.List.{AllZip, range_with_len}
-use Rattle.dps_terms.specs.Tree.{var, Tree, leaf}
+use Rattle.dps_terms.specs.Tree.{var, entry, Tree, leaf, StandsIn}
 use Rattle.dps_terms.specs.Replace.{substitute, variables_to}
 use Rattle.dps_terms.specs.Variables.{occurrences}
 use Rattle.dps_terms.specs.Same.{same}
-use Rattle.dps_process.specs.Process.{replace_in}
+use Rattle.dps_process.specs.Process.{Process, EachBinder, replace_in}
+use Rattle.dps_unify.specs.Order.{level_of}
 use Rattle.dps_know.specs.Know.{know_under}
 use Rattle.dps_solver.specs.Scene.{Disequation}
 use Rattle.dps_solver.specs.Solutions.{valued, IsValuation}
 use Rattle.dps_node.specs.Node.{SymbolicConfig, Node, label_under, variables_of, scene_of, with_configs}
-use Rattle.dps_node.specs.Numbering.{is_among, counted_as, as_variable, variables_in, least}
+use Rattle.dps_renewal.specs.Numbering.{is_among, counted_as, as_variable, variables_in, least}
 
 -- what each of the node's variables becomes
 abbrev pub bound_trees : Node → (ℕ → Tree) → List Tree
@@ -78,6 +79,24 @@ excluded node bindings =
 -- the two kids of a split
 abbrev pub IsSplit : Node → (ℕ → Tree) → List Node → Type 0
 IsSplit node bindings kids = (kid : Node) × Applies node bindings kid × (kids ≡ kid ∷ excluded node bindings ∷ [])
+
+-- The i-th entry's value, counted from 0, holds variables whose trees hold only entries that came before.
+abbrev pub HasOlderEntries : (ℕ → Tree) → List Tree → Type 0
+HasOlderEntries z values =
+    (i x j : ℕ) (v : Tree) → slice_get values i ≡ Some v → StandsIn (var x) v → StandsIn (entry j) (z x) → j ≤ i
+
+-- no part of the configuration binds a variable that stands in the value of what is put for another one
+abbrev pub BindsNoneOf : (ℕ → Tree) → SymbolicConfig → Type 0
+BindsNoneOf z c =
+    (g : List Tree) (p : Process) (x : ℕ) → g ≡ map (substitute (valued g z)) c.values → Contains c.parts p → z x ≢ leaf (var x)
+    → EachBinder (λ y. ¬ StandsIn (var y) (valued g z x)) p
+
+-- Bindings by which a node can be split: they bind its own variables alone, and can be put into its configurations. What
+-- the search lists for a node of the tree is such.
+pub record CanSplit (node : Node) (bindings : ℕ → Tree) : Type 0 where
+  pub own : (x : ℕ) → level_of (variables_of node) x ≡ None → bindings x ≡ leaf (var x)
+  pub older : All (λ (c : SymbolicConfig). HasOlderEntries (binding node bindings) c.values) node.configs
+  pub apart : All (BindsNoneOf (binding node bindings)) node.configs
 
 -- those at whose place the list has this truth value
 abbrev pub chosen : {A : Type 0} → Bool → List Bool → List A → List A

@@ -4,7 +4,7 @@ use Rattle.dps_terms.specs.Tree.{Tree}
 use Rattle.dps_terms.specs.Replace.{substitute}
 use Rattle.dps_process.specs.Steps.{Label}
 use Rattle.dps_know.specs.Know.{recipe_of}
-use Rattle.dps_node.specs.Numbering.{counted_as, as_own_name, variables_in}
+use Rattle.dps_renewal.specs.Numbering.{counted_as, as_own_name, variables_in}
 use Rattle.dps_node.specs.Node.{Node, label_tree, label_under}
 
 -- the word of a node with its recipes

@@ -58,7 +58,7 @@ fn copy_of_label(alloc: Global, label: &Label) -> Result<Label, NoMemory>
     }
 }
 
-fn copies_of_disequations(
+pub(crate) fn copies_of_disequations(
     alloc: Global,
     disequations: &[Disequation],
 ) -> Result<Vec<Disequation>, NoMemory>

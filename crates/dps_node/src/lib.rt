@@ -3,14 +3,19 @@
 #![tactic(auto)]
 
 mod beginning;
-mod bindings;
+mod configs;
 mod consistency;
 mod copying;
 mod examples;
+mod labels;
 mod laws;
 mod node;
 mod numbering;
 mod parts;
+mod replaced;
+mod scenes;
+mod splits;
+mod valuation;
 mod words;
 
 pub use beginning::root;
@@ -27,4 +32,6 @@ pub use laws::{
 pub use node::{Node, SymConfig};
 pub use numbering::variables;
 pub use parts::partition;
+pub use scenes::scene;
+pub use splits::split;
 pub use words::ground_trace;

@@ -5,11 +5,12 @@ ghost use Rattle.indexmap.specs.IndexSet.{insert_all};
 ghost use Rattle.dps_terms.specs.Variables.{occurrences, each_once, variables as variables_of_tree};
 ghost use Rattle.dps_process.specs.Labels.{label_of};
 ghost use Rattle.dps_node.specs.Node.{label_tree, numbered_from, variables_of};
-ghost use Rattle.dps_node.specs.Numbering.{is_among};
+ghost use Rattle.dps_renewal.specs.Numbering.{is_among};
 ghost use Rattle.dps_node.specs.Code.{node_of, label_variables};
 
 use crate::Node;
 use dps_process::Label;
+use dps_renewal::add_numbers;
 use dps_terms::{NoMemory, Term};
 use indexmap::IndexSet;
 use std::alloc::Global;
@@ -78,33 +79,10 @@ fn add_label(alloc: Global, label: &Label, found: &mut IndexSet<u64>) -> Result<
     }
 }
 
-/// The variables of the trees, each once, by first occurrence.
-#[tactic(auto, using(crate::proofs::Numbered::next_tree))]
-pub(crate) fn variables_of_trees(alloc: Global, trees: &[Term]) -> Result<IndexSet<u64>, NoMemory>
-    ensures { IfOk result (λ set. set.keys ≡ each_once (flat_map occurrences trees.now)) }
-{
-    let mut found = IndexSet::new(alloc);
-    for tree in trees {
-        add_variables(alloc, tree, &mut found)?;
-    }
-    Ok(found)
-}
-
 /// Adds the variables of the tree to those that were found already.
 fn add_variables(alloc: Global, tree: &Term, found: &mut IndexSet<u64>) -> Result<(), NoMemory>
     ensures { OnOk result (found.new.keys ≡ insert_all nat_eq found.old.keys (variables_of_tree tree.now)) }
 {
     let variables = tree.vars(alloc)?;
     add_numbers(&variables, found)
-}
-
-/// Adds the numbers to those that were found already.
-#[tactic(auto, using(crate::proofs::EachOnce::number_next, crate::proofs::EachOnce::numbers_all))]
-fn add_numbers(numbers: &[u64], found: &mut IndexSet<u64>) -> Result<(), NoMemory>
-    ensures { OnOk result (found.new.keys ≡ insert_all nat_eq found.old.keys numbers.now) }
-{
-    for number in numbers {
-        found.insert(*number)?;
-    }
-    Ok(())
 }

@@ -1,14 +1,13 @@
 //! The word of a node as it is printed.
 ghost use Rattle.std.specs.Prelude.{◌≡◌, map, IfOk};
-ghost use Rattle.dps_terms.specs.Replace.{substitute};
 ghost use Rattle.dps_know.specs.Know.{recipe_of};
 ghost use Rattle.dps_process.specs.Labels.{label_of};
 ghost use Rattle.dps_node.specs.Node.{label_under};
-ghost use Rattle.dps_node.specs.Numbering.{counted_as, as_own_name};
 ghost use Rattle.dps_node.specs.Words.{word_recipes, ground_word};
 ghost use Rattle.dps_node.specs.Code.{node_of};
 
 use crate::Node;
+use crate::labels::labels_under;
 use crate::numbering::variables_of_labels;
 use dps_know::Know;
 use dps_process::Label;
@@ -23,7 +22,7 @@ pub fn ground_trace(alloc: Global, node: &Node) -> Result<Vec<Label>, NoMemory>
 {
     let recipes = with_recipes(alloc, &node.know, &node.labels)?;
     let variables = variables_of_labels(alloc, &recipes)?;
-    let word = with_names(alloc, &FreshNames { variables }, &recipes)?;
+    let word = labels_under(alloc, &recipes, &FreshNames { variables })?;
     Ok(word)
 }
 
@@ -59,7 +58,7 @@ struct FreshNames {
 
 impl Replacement for FreshNames {
     ghost use Rattle.dps_terms.specs.Replace.{variables_to};
-    ghost use Rattle.dps_node.specs.Numbering.{counted_as, as_own_name};
+    ghost use Rattle.dps_renewal.specs.Numbering.{counted_as, as_own_name};
 
     ghost becomes = { λ names. variables_to (counted_as as_own_name 1 names.variables.keys) };
 
@@ -75,29 +74,5 @@ impl Replacement for FreshNames {
             },
             None => stack.push_leaf(leaf),
         }
-    }
-}
-
-/// The labels with names in the place of variables.
-fn with_names(alloc: Global, names: &FreshNames, labels: &[Label]) -> Result<Vec<Label>, NoMemory>
-    ensures { IfOk result (λ v. map label_of v.items ≡ map (label_under (substitute (counted_as as_own_name 1 names.now.variables.keys))) (map label_of labels.now)) }
-{
-    let mut made = Vec::with_capacity(alloc, labels.len())?;
-    for label in labels {
-        let one = with_name(alloc, names, label)?;
-        made.push(one)?;
-    }
-    Ok(made)
-}
-
-fn with_name(alloc: Global, names: &FreshNames, label: &Label) -> Result<Label, NoMemory>
-    ensures { IfOk result (λ l. label_of l ≡ label_under (substitute (counted_as as_own_name 1 names.now.variables.keys)) (label_of label.now)) }
-{
-    match label {
-        Label::In(channel, recipe) => {
-            let ground = recipe.whole().replaced(alloc, names)?;
-            Ok(Label::In(*channel, ground))
-        }
-        Label::Out(channel, number) => Ok(Label::Out(*channel, *number)),
     }
 }

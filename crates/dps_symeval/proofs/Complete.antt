@@ -94,10 +94,10 @@ one_below : (n : ℕ) (t : Tree) → Below n t → All (Below n) (t ∷ [])
 one_below n t b = All-cons (Below n) t [] b (All-nil (Below n))
 
 -- the variables of a rule
-left_below : (r : Rule) (n : ℕ) → StandsIn (var n) r.left → n < room r
+pub left_below : (r : Rule) (n : ℕ) → StandsIn (var n) r.left → n < room r
 left_below r n k = below_least (variables r.left) n ((variables_are_those r.left n).1 k)
 
-right_below : (r : Rule) → IsBounded r → (n : ℕ) → StandsIn (var n) r.right → n < room r
+pub right_below : (r : Rule) → IsBounded r → (n : ℕ) → StandsIn (var n) r.right → n < room r
 right_below r b n k =
     elim b [
       | inl s ↦ left_below r n (nested k (strict_is_subterm s))

@@ -1,5 +1,5 @@
 -- How a term with variables may evaluate.
-use Rattle.std.specs.Prelude.{◌≡◌, ◌↔◌, ◌⊎◌, ◌<◌, ⊤, ℕ, ◌+◌, Bool, true, false, if◌then◌else◌, List, [], ◌∷◌, ◌++◌, Option, Some, None, map, filter, slice_get, Contains}
+use Rattle.std.specs.Prelude.{◌≡◌, ◌↔◌, ◌⊎◌, ◌<◌, ⊤, ℕ, ◌+◌, Bool, true, false, if◌then◌else◌, List, [], ◌∷◌, ◌++◌, Option, Some, None, map, filter, slice_get, All, Contains}
 use Rattle.std.specs.List.{zip, flat_map}
 use Rattle.dps_terms.specs.declared.Sym.{Sym}
 use Rattle.dps_signature.specs.declared.SymKind.{SymKind}
@@ -147,7 +147,20 @@ pub data IsPruned : List Case → List Case → Type 0 where
   keeps : {c : Case} {all kept : List Case} → IsPruned all kept → IsPruned (c ∷ all) (c ∷ kept)
   leaves_out : {c : Case} {all kept : List Case} → IsNotUnifiable c.equations → IsPruned all kept → IsPruned (c ∷ all) kept
 
--- The same of what is kept; and there the values of the case agree with the given ones on all numbers before the new ones, also
+-- some substitution makes the equations true
+abbrev pub IsUnifiable : List (Tree × Tree) → Type 0
+IsUnifiable equations = (r : ℕ → Tree) × Unifies r equations
+
+-- What the code answers: the cases in order, just those left out whose equations nothing makes true.
+pub record ArePossible (all kept : List Case) : Type 0 where
+  pub pruned : IsPruned all kept
+  pub possible : All (λ c. IsUnifiable c.equations) kept
+
+-- There is one such list.
+abbrev pub PossibleCasesAreOne : Type 0
+PossibleCasesAreOne = (all kept others : List Case) → ArePossible all kept → ArePossible all others → kept ≡ others
+
+-- The cases cover evaluation where such are left out; and there the values of the case agree with the given ones on all numbers before the new ones, also
 -- on those of other terms.
 abbrev pub PrunedCasesCover : Type 0
 PrunedCasesCover =

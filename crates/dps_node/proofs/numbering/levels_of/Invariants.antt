@@ -1,6 +1,6 @@
 use Rattle.std.proofs.Common.{◌≡◌, ℕ, ◌+◌, ◌++◌, filter, drop}
 use Rattle.dps_node.specs.Node.{numbered_from}
-use Rattle.dps_node.specs.Numbering.{is_among}
+use Rattle.dps_renewal.specs.Numbering.{is_among}
 use Rattle.dps_node.proofs.numbering.levels_of.Given as goal
 
 abbrev pub invariant-loop-i : goal.invariant-loop-i

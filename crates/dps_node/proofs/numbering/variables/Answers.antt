@@ -1,7 +1,7 @@
 use Rattle.std.proofs.Common.{◌∙◌, ap, ℕ, filter}
 use Rattle.std.proofs.lemmas.Result.{IfOk-weaker}
 use Rattle.dps_node.specs.Node.{numbered_from}
-use Rattle.dps_node.specs.Numbering.{is_among}
+use Rattle.dps_renewal.specs.Numbering.{is_among}
 use Rattle.dps_node.specs.Code.{node_of}
 use Rattle.dps_node.proofs.Numbered.{levels_of_those}
 use Rattle.dps_node.proofs.numbering.variables.Goals as goal

@@ -5,7 +5,7 @@ use Rattle.dps_terms.specs.Variables.{occurrences, each_once}
 use Rattle.dps_know.specs.Know.{recipe_of}
 use Rattle.dps_process.specs.Labels.{label_of}
 use Rattle.dps_node.specs.Node.{label_tree, label_under}
-use Rattle.dps_node.specs.Numbering.{counted_as, as_own_name}
+use Rattle.dps_renewal.specs.Numbering.{counted_as, as_own_name}
 use Rattle.dps_node.specs.Code.{node_of}
 use Rattle.dps_node.proofs.Worded.{word_named}
 use Rattle.dps_node.proofs.words.ground_trace.Goals as goal
