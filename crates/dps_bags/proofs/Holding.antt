@@ -1,6 +1,6 @@
 -- What lists hold.
 use Rattle.std.proofs.Common.{◌≡◌, ℕ, zero, suc, ◌<◌, List, [], ◌∷◌, ◌++◌, length, refl, sym, ◌∙◌, ap, subst, inl, inr, arith, get_or, map, Bool, true}
-use Rattle.std.specs.Prelude.{◌⊎◌, ◌↔◌, Contains}
+use Rattle.std.specs.Prelude.{◌⊎◌, ◌↔◌, Contains, Result, Ok, Err, OnErr}
 use Rattle.std.specs.Cmp.Lexicographic.{pointwise}
 use Rattle.std.proofs.Math.Dec.{eqb}
 use Rattle.std.proofs.lemmas.Bool.Decides.{Decides-eqb}
@@ -71,3 +71,8 @@ pushed_mapped {A} {B} f xs x y =
 pub no_items_left : {A : Type 0} (xs : List A) → (¬ (0 < length xs)) → xs ≡ []
 no_items_left [] h = refl
 no_items_left (x ∷ xs) h = absurd (h (omega arith))
+
+-- what holds anyway holds where a call fails
+pub on_err_of : {A E P : Type 0} (r : Result A E) → P → OnErr r P
+on_err_of (Ok x) p = tt
+on_err_of (Err e) p = p

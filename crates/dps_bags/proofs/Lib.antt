@@ -1,3 +1,4 @@
+pub mod Digesting
 pub mod Drawing
 pub mod Holding
 pub mod Joining
