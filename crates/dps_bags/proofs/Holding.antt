@@ -61,8 +61,8 @@ mapped_item f (x ∷ xs) zero d e h = refl
 mapped_item f (x ∷ xs) (suc i) d e h = mapped_item f xs i d e (omega (arith, h))
 
 -- equal slices of numbers are one list
-pub same_numbers : (xs ys : List ℕ) (r : Bool) → r ≡ pointwise eqb xs ys → r ≡ true → xs ≡ ys
-same_numbers xs ys r e t = (slice_eq-Decides Decides-eqb xs ys r e).0 t
+pub same_numbers : (xs ys : List ℕ) (r : Bool) → r ≡ pointwise eqb xs ys → (r ≡ true) ↔ (xs ≡ ys)
+same_numbers xs ys r e = slice_eq-Decides Decides-eqb xs ys r e
 
 pub pushed_mapped : {A B : Type 0} (f : A → B) (xs : List A) (x : A) (y : B) → Contains (map f (xs ++ x ∷ [])) y ↔ (Contains (map f xs) y ⊎ (y ≡ f x))
 pushed_mapped {A} {B} f xs x y =
