@@ -1,11 +1,11 @@
 -- Lists whose items are noted at their digests, and stand once.
-use Rattle.std.proofs.Common.{◌≡◌, ℕ, ◌<◌, ◌+◌, List, [], ◌∷◌, ◌++◌, length, get_or, refl, sym, ◌∙◌, ap, subst, inl, inr, arith, length-append, Bool, true, false}
+use Rattle.std.proofs.Common.{◌≡◌, ℕ, ◌<◌, List, [], ◌∷◌, ◌++◌, length, get_or, sym, ◌∙◌, ap, subst, inl, inr, arith, length-append, Bool, true, false}
 use Rattle.std.specs.Prelude.{◌⊎◌, ◌==◌, if◌then◌else◌, Contains}
 use Rattle.std.specs.List.Sorted.{IsNonDecreasing}
 use Rattle.std.proofs.lemmas.List.{get_or_append_left, get_or_push}
 use Rattle.std.proofs.lemmas.List.Elements.{Contains-append_left, Contains-push, Contains-get_or}
 use Rattle.dps_bags.specs.declared.places.Places.{Places}
-use Rattle.dps_bags.specs.Apart.{AreApart, StandOnce}
+use Rattle.dps_bags.specs.Apart.{AreApart}
 use Rattle.dps_bags.specs.Digest.{numbers_digest}
 use Rattle.dps_bags.specs.Places.{numbers_at, IsNoted, HaveSame, AllNoted}
 use Rattle.dps_bags.specs.Bags.{AreKept, StandsAt, AreBagsNoted}

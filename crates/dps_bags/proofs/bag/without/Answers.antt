@@ -1,4 +1,4 @@
-use Rattle.std.proofs.Common.{◌≡◌, ◌≤◌, ◌+◌, ◌-◌, length, drop, arith}
+use Rattle.std.proofs.Common.{◌≤◌, ◌+◌, ◌-◌, length, drop, arith}
 use Rattle.std.proofs.lemmas.List.{take_all, length-drop}
 use Rattle.dps_bags.proofs.Drawing.{left_ascending}
 use Rattle.dps_bags.proofs.bag.without.Goals as goal

@@ -1,5 +1,4 @@
-use Rattle.std.proofs.Common.{◌≡◌, List, ℕ, [], map, get_or, sym, ◌∙◌, ap, length, ◌<◌, subst, Vec, Global}
-use Rattle.std.proofs.lemmas.List.{get_or_default}
+use Rattle.std.proofs.Common.{◌≡◌, List, ℕ, [], map, get_or, sym, ◌∙◌, ap, ◌<◌, subst, Vec, Global}
 use Rattle.dps_bags.proofs.Holding.{mapped_length, mapped_item, same_numbers}
 use Rattle.dps_bags.proofs.bags.is_at.Goals as goal
 

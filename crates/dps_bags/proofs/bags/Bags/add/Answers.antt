@@ -1,7 +1,5 @@
-use Rattle.std.proofs.Common.{◌≡◌, ℕ, List, ◌∷◌, [], ◌++◌, map, length, sym, subst, ◌∙◌, ap, Vec, Global, true≢false}
-use Rattle.std.specs.Prelude.{Contains}
+use Rattle.std.proofs.Common.{◌≡◌, ℕ, List, ◌∷◌, [], map, length, sym, ◌∙◌, ap, Vec, Global, true≢false}
 use Rattle.dps_bags.specs.Digest.{numbers_digest}
-use Rattle.dps_bags.specs.Bags.{AreKept, AreBagsNoted}
 use Rattle.dps_bags.proofs.Holding.{pushed_mapped, mapped_pushed, mapped_length}
 use Rattle.dps_bags.proofs.Keeping.{all_noted_same, all_noted_stay, all_noted_more, kept_more, new_bag}
 use Rattle.dps_bags.proofs.bags.Bags.add.Goals as goal

@@ -1,6 +1,5 @@
 use Rattle.std.proofs.Common.{arith}
 use Rattle.std.proofs.lemmas.Grind.{common_steps}
-use Rattle.dps_bags.specs.Places.{HaveSame}
 use Rattle.dps_bags.proofs.Holding.{on_err_of}
 use Rattle.dps_bags.proofs.places.Places.add.Goals as goal
 
