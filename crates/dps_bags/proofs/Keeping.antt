@@ -11,7 +11,7 @@ use Rattle.dps_bags.specs.Places.{numbers_at, IsNoted, HaveSame, AllNoted}
 use Rattle.dps_bags.specs.Bags.{AreKept, StandsAt, AreBagsNoted}
 use Rattle.dps_bags.proofs.Holding.{contains_none, contains_pushed, has_place}
 
-before_or_last : {A : Type 0} (xs : List A) (x : A) (i : ℕ) → i < length (xs ++ x ∷ []) → (i < length xs) ⊎ (i ≡ length xs)
+pub before_or_last : {A : Type 0} (xs : List A) (x : A) (i : ℕ) → i < length (xs ++ x ∷ []) → (i < length xs) ⊎ (i ≡ length xs)
 before_or_last xs x i h = let e = length-append xs (x ∷ []) in grind (arith, h, e)
 
 pub apart_none : {A : Type 0} (R : A → A → Type 0) (d : A) → AreApart R d []

@@ -9,6 +9,8 @@ pub mod Collecting
 pub mod Cases
 pub mod Lists
 pub mod Numbering
+pub mod Digesting
+pub mod Distinct
 pub mod Places
 pub mod Meetings
 pub mod Receptions

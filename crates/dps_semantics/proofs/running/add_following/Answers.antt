@@ -16,7 +16,7 @@ loop-next-preserved c =
     let found = c.loop-next.found.items in
     next_more p config label moved old left found c.in_ok-settled.settled.items c.append.new.self.items c.in-Some.next c.in_ok-left.ensures
     (subst (λ (ls : List Config). NextBelow p config label moved old ls found) c.in-Some.ensures.items c.loop-next.invariant)
-    c.in_ok-settled.ensures c.in_ok-append.ensures.items
+    c.in_ok-settled.ensures.just c.in_ok-append.ensures.items
 
 pub returns : goal.returns
 returns c =
