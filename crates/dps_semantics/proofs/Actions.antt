@@ -212,8 +212,8 @@ module _ (theory : Theory) (asked : Asked) (c : Config) where
       → MovesBelow (i + 1) new found
   moves_same i n old new found h k (inr f) e = absurd (e f.1)
   moves_same i n old new found h k (inl f) e =
-      let p = k.known n f.1 in
-      let same : get_or c.parts i nil ≡ get_or c.parts p.0 nil = sym f.2 ∙ p.2 in
+      let p = k.known n f.1.0 in
+      let same : get_or c.parts i nil ≡ get_or c.parts p.0 nil = sym f.1.1 ∙ p.2 in
       subst (λ (t : List Process). MovesBelow (i + 1) t found) (sym f.0) (record {
         known = known_later i old k.known;
         complete = below_next (λ m. (d : Config) → ActsAt theory asked c m d → IsOneOf found d) i k.complete (λ d q. as_before p.0 p.1 same d q);

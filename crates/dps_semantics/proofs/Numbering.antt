@@ -22,8 +22,8 @@ pub numbered : (old new : List Process) (p : Process) (n : ℕ) → IsNumbered o
 numbered old new p n = elim [
   | inl h ↦ record {
     grown = subst (IsGrown old) (sym h.0) (grown_none old);
-    within = subst (λ (t : List Process). n < length t) (sym h.0) h.1;
-    there = ap (λ t. part_of t n) h.0 ∙ h.2;
+    within = subst (λ (t : List Process). n < length t) (sym h.0) h.1.0;
+    there = ap (λ t. part_of t n) h.0 ∙ h.1.1;
   }
   | inr h ↦ record {
     grown = record {

@@ -175,7 +175,7 @@ once_more all left c old new keys numbers once more before after h n e noted not
 -- one that is kept
 pub once_same : (all left : List Config) (c : Config) (old new : List Process) (keys : List (List ℕ)) (numbers : List ℕ) (once : List Config) (places : Places) (ns : List ℕ)
     → OnceBelow all (left ++ c ∷ []) old keys once places → AreNumbersOf c.parts old new numbers → IsKept keys once ns numbers c.frame → OnceBelow all left new keys once places
-once_same all left c old new keys numbers once places ns h n (i, j, (l, e), (m, f)) = record {
+once_same all left c old new keys numbers once places ns h n (i, j, ((l, e), (m, f))) = record {
   same = λ k. (
     λ o. elim ((h.same k).0 o) [
       | inl p ↦ elim ((one_pushed left c k).0 p) [ inl q ↦ inl q | inr b ↦ inr (one_as once c k kept b) ]
