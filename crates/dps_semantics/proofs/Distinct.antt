@@ -8,24 +8,17 @@ use Rattle.std.proofs.lemmas.List.Sums.{sum_by-cons}
 use Rattle.dps_terms.specs.Tree.{Tree}
 use Rattle.dps_bags.specs.Apart.{StandOnce}
 use Rattle.dps_bags.specs.Bags.{Draws, drawn_here, drawn_there, AreKept}
-use Rattle.dps_bags.proofs.Holding.{contains_first, contains_later, contains_cases, mapped_length, mapped_item}
+use Rattle.dps_bags.proofs.Holding.{contains_first, contains_later, mapped_length, mapped_item}
 use Rattle.dps_bags.proofs.Shuffling.{drawn_sum, ascending_same}
 use Rattle.dps_process.specs.Process.{Process, nil}
 use Rattle.dps_process.specs.Steps.{Config, Removes, here, there, IsReordered, no_parts, a_part, AreOneBag}
 use Rattle.dps_semantics.specs.Settling.{EachStandsOnce}
 use Rattle.dps_semantics.specs.Parts.{part_of, parts_of, AreNumbers, AreAllNumbers}
+use Rattle.dps_semantics.proofs.Places.{draws_within}
 use Rattle.dps_semantics.specs.Configs.{config_of, AreConfigsOf}
 
 either_way : (n m : ℕ) → (n < m) ⊎ ((n ≡ m) ⊎ (m < n))
 either_way n m = grind arith
-
-drawn_from : {n m : ℕ} {ns rest : List ℕ} → Draws n ns rest → Contains rest m → Contains ns m
-drawn_from {n} {m} (drawn_here {ns}) c = contains_later n ns m c
-drawn_from {n} {m} (drawn_there {m = k} {ns} {rest} d) c =
-    elim (contains_cases k rest m c) [
-      | inl e ↦ subst (λ j. Contains (k ∷ ns) j) (sym e) (contains_first k ns)
-      | inr h ↦ contains_later k ns m (drawn_from d h)
-    ]
 
 module _ (table : List Process) (once : StandOnce nil table) where
   same_number : (n m : ℕ) → n < length table → m < length table → part_of table n ≡ part_of table m → n ≡ m
@@ -57,7 +50,7 @@ module _ (table : List Process) (once : StandOnce nil table) where
   reordered_sums [] ms a b (a_part r s) e g f = cc
   reordered_sums (n ∷ ns) ms a b (a_part r s) e g f =
       let d = drawn_part n (a n (contains_first n ns)) ms b r g (ap (λ xs. get_or xs zero nil) e) in
-      let k = reordered_sums ns d.0 (λ m c. a m (contains_later n ns m c)) (λ m c. b m (drawn_from d.1 c)) s (ap (drop (suc zero)) e) d.2 f in
+      let k = reordered_sums ns d.0 (λ m c. a m (contains_later n ns m c)) (λ m c. b m (draws_within d.1 c)) s (ap (drop (suc zero)) e) d.2 f in
       omega (arith, drawn_sum f d.1, k, sum_by-cons f n ns)
 
   pub same_parts : (ns ms : List ℕ) → AreNumbers table ns → AreNumbers table ms → IsNonDecreasing ns → IsNonDecreasing ms → IsReordered (parts_of table ns) (parts_of table ms) → ns ≡ ms

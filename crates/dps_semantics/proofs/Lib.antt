@@ -17,6 +17,7 @@ pub mod Receptions
 pub mod Senders
 pub mod Closure
 pub mod Settled
+pub mod Differing
 pub mod Actions
 pub mod Words
 pub mod Total
