@@ -46,12 +46,12 @@ loop-config-preserved-in-Continue-branch-4 c =
     let number = subst (λ (ps : List Process). AreNumbersOf ps old new numbers) parts c.in_ok-numbers.ensures in
     let places = c.loop-config.places in
     let digest : c.config_digest-digest.result ≡ config_digest config.frame numbers =
-        c.config_digest-digest.ensures ∙ (ap (config_digest c.config.inside.frame) c.deref-in-Some.ensures.value ∙ ap (λ (k : Config). config_digest k.frame numbers) c.config.view_is) in
+    c.config_digest-digest.ensures ∙ (ap (config_digest c.config.inside.frame) c.deref-in-Some.ensures.value ∙ ap (λ (k : Config). config_digest k.frame numbers) c.config.view_is) in
     let count : c.len.result ≡ length once = c.len.ensures ∙ c.loop-config.once.ok.0 in
     let noted = rw (digest, count) at c.in_ok-add.ensures.noted in
     let inside = rw (c.deref-in-Some-2.ensures.value, c.deref-in-Some-3.ensures.value, c.of.ensures, c.deref-in-Some-4.ensures.value, digest) at c.is_kept.ensures in
     let told =
-        subst (λ (k : Config). IsTrue c.is_kept.result ↔ IsKept keys once (numbers_at places (config_digest config.frame numbers)) numbers k.frame) c.config.view_is inside in
+    subst (λ (k : Config). IsTrue c.is_kept.result ↔ IsKept keys once (numbers_at places (config_digest config.frame numbers)) numbers k.frame) c.config.view_is inside in
     let pushed = ap (map numbers_in) c.in_ok-push.ensures.items ∙ mapped_pushed numbers_in c.loop-config.keys.items c.in_ok-numbers.numbers in
     subst (λ (ks : List (List ℕ)). OnceBelow all left new ks more c.add.new.self) (sym pushed)
     (once_more all left config old new keys numbers once more places c.add.new.self before number c.in_ok-push-2.ensures.items noted

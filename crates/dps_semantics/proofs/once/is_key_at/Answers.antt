@@ -13,5 +13,5 @@ returns-in-Some c =
     let same = same_numbers c.as_slice.result.now c.args.numbers.now c.eq.result c.eq.ensures in
     let within : place < length keys = c.in-Some.ensures.lookup.3.0 in
     let item : get_or (map numbers_in keys) place [] ≡ c.as_slice.result.now =
-        mapped_item numbers_in keys place key [] within ∙ (ap numbers_in (sym c.in-Some.ensures.lookup.1) ∙ sym c.as_slice.ensures.value) in
+    mapped_item numbers_in keys place key [] within ∙ (ap numbers_in (sym c.in-Some.ensures.lookup.1) ∙ sym c.as_slice.ensures.value) in
     (λ t. (omega (arith, within, mapped_length numbers_in keys), item ∙ same.0 t), λ h. same.1 (sym item ∙ h.1))

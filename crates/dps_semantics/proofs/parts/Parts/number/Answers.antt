@@ -1,4 +1,4 @@
-use Rattle.std.proofs.Common.{◌≡◌, ◌∙◌, ◌∷◌, ◌++◌, [], List, length, ap, sym, subst, refl, inr}
+use Rattle.std.proofs.Common.{◌≡◌, ◌∙◌, ◌∷◌, ◌++◌, [], List, length, ap, subst, refl, inr}
 use Rattle.dps_bags.specs.Places.{numbers_at}
 use Rattle.dps_bags.proofs.Keeping.{all_noted_same, all_noted_stay, all_noted_more}
 use Rattle.dps_process.specs.Process.{Process, nil}
@@ -18,7 +18,7 @@ invariant_of-self-in_err-push c =
     (all_noted_stay (process_digest 0) nil c.self.inside.list.items c.self.inside.places c.add.new.self c.with_process-digest.result c.len-number.result c.in_ok-add.ensures.noted c.self.invariant)
 
 pub invariant_of-self-2 : goal.invariant_of-self-2
-invariant_of-self-2 c = 
+invariant_of-self-2 c =
     let list = c.self.inside.list.items in
     let part = c.args.part.now in
     let same : c.in_ok-copy.copy ≡ part = c.in_ok-copy.ensures in
