@@ -1,6 +1,6 @@
 -- What lists hold.
 use Rattle.std.proofs.Common.{◌≡◌, ℕ, zero, suc, ◌<◌, List, [], ◌∷◌, ◌++◌, length, refl, sym, ◌∙◌, ap, subst, inl, inr, arith, get_or, map, Bool, true}
-use Rattle.std.specs.Prelude.{◌⊎◌, ◌↔◌, Contains}
+use Rattle.std.specs.Prelude.{◌⊎◌, ◌↔◌, Contains, Result, Ok, Err, OnErr}
 use Rattle.std.specs.Cmp.Lexicographic.{pointwise}
 use Rattle.std.proofs.Math.Dec.{eqb}
 use Rattle.std.proofs.lemmas.Bool.Decides.{Decides-eqb}
@@ -61,8 +61,8 @@ mapped_item f (x ∷ xs) zero d e h = refl
 mapped_item f (x ∷ xs) (suc i) d e h = mapped_item f xs i d e (omega (arith, h))
 
 -- equal slices of numbers are one list
-pub same_numbers : (xs ys : List ℕ) (r : Bool) → r ≡ pointwise eqb xs ys → r ≡ true → xs ≡ ys
-same_numbers xs ys r e t = (slice_eq-Decides Decides-eqb xs ys r e).0 t
+pub same_numbers : (xs ys : List ℕ) (r : Bool) → r ≡ pointwise eqb xs ys → (r ≡ true) ↔ (xs ≡ ys)
+same_numbers xs ys r e = slice_eq-Decides Decides-eqb xs ys r e
 
 pub pushed_mapped : {A B : Type 0} (f : A → B) (xs : List A) (x : A) (y : B) → Contains (map f (xs ++ x ∷ [])) y ↔ (Contains (map f xs) y ⊎ (y ≡ f x))
 pushed_mapped {A} {B} f xs x y =
@@ -71,3 +71,8 @@ pushed_mapped {A} {B} f xs x y =
 pub no_items_left : {A : Type 0} (xs : List A) → (¬ (0 < length xs)) → xs ≡ []
 no_items_left [] h = refl
 no_items_left (x ∷ xs) h = absurd (h (omega arith))
+
+-- what holds anyway holds where a call fails
+pub on_err_of : {A E P : Type 0} (r : Result A E) → P → OnErr r P
+on_err_of (Ok x) p = tt
+on_err_of (Err e) p = p

@@ -1,6 +1,10 @@
 -- Bags of numbers: lists, up to their order.
-use Rattle.std.specs.Prelude.{◌≡◌, ◌⊎◌, ℕ, ◌+◌, List, ◌∷◌, ◌++◌, get_or, Contains}
-use Rattle.std.specs.List.Sorted.{IsPermutation}
+use Rattle.std.specs.Prelude.{◌≡◌, ◌⊎◌, ◌<◌, ℕ, ◌+◌, List, [], ◌∷◌, ◌++◌, length, get_or, Contains}
+use Rattle.std.specs.List.Sorted.{IsPermutation, IsNonDecreasing}
+use Rattle.dps_bags.specs.declared.places.Places.{Places}
+use Rattle.dps_bags.specs.Apart.{StandOnce}
+use Rattle.dps_bags.specs.Digest.{numbers_digest}
+use Rattle.dps_bags.specs.Places.{AllNoted}
 
 -- n is one of the numbers, and the others are left
 pub data Draws (n : ℕ) : List ℕ → List ℕ → Type 0 where
@@ -35,3 +39,20 @@ pub record AddsJoined (one : List ℕ) (others old new : List (List ℕ)) : Type
   pub kept : (bag : List ℕ) → Contains old bag → Contains new bag
   pub complete : (other : List ℕ) → Contains others other → HasJoined new one other
   pub sound : (bag : List ℕ) → Contains new bag → Contains old bag ⊎ ((other : List ℕ) × Contains others other × IsJoined one other bag)
+
+-- no bag stands twice, and the numbers of each are in ascending order
+pub record AreKept (bags : List (List ℕ)) : Type 0 where
+  pub once : StandOnce [] bags
+  pub ascending : (bag : List ℕ) → Contains bags bag → IsNonDecreasing bag
+
+-- the bag stands at the place
+abbrev pub IsAt : List (List ℕ) → ℕ → List ℕ → Type 0
+IsAt bags place bag = (place < length bags) × (get_or bags place [] ≡ bag)
+
+-- it stands at one of the places
+abbrev pub StandsAt : List (List ℕ) → List ℕ → List ℕ → Type 0
+StandsAt bags places bag = (place : ℕ) × Contains places place × IsAt bags place bag
+
+-- each bag is noted at its digest, by its place
+abbrev pub AreBagsNoted : List (List ℕ) → Places → Type 0
+AreBagsNoted bags places = AllNoted (numbers_digest 0) [] bags places

@@ -1,1 +1,4 @@
+pub mod Apart
 pub mod Bags
+pub mod Digest
+pub mod Places

@@ -1,6 +1,7 @@
 //! Bags, each once.
 ghost use Rattle.std.specs.Prelude.{◌≡◌, ◌⊎◌, ◌↔◌, ◌<◌, ◌++◌, ℕ, List, [], map, length, get_or, IsTrue, IfOk, OnOk, Contains};
-ghost use Rattle.dps_bags.specs.Bags.{IsLonger};
+ghost use Rattle.std.specs.List.Sorted.{IsNonDecreasing};
+ghost use Rattle.dps_bags.specs.Bags.{IsLonger, AreKept, IsAt, StandsAt};
 
 use crate::NoMemory;
 use crate::digest::with_numbers;
@@ -24,6 +25,10 @@ impl Model for Bags {
     ghost coded = { coded_list (coded_list coded_ℕ) };
 
     ghost view = { λ a. map (λ bag. bag.items) a.list.items };
+
+    ghost use Rattle.dps_bags.specs.Bags.{AreKept, AreBagsNoted};
+
+    ghost invariant = { λ a. AreKept (map (λ bag. bag.items) a.list.items) × AreBagsNoted (map (λ bag. bag.items) a.list.items) a.places };
 }
 
 impl Bags {
@@ -39,6 +44,7 @@ impl Bags {
 
     /// The one bag.
     pub fn of(alloc: Global, bag: Vec<usize>) -> Result<Bags, NoMemory>
+        requires { IsNonDecreasing bag.items }
         ensures { IfOk result (λ bags. (b : List ℕ) → Contains bags b ↔ (b ≡ bag.items)) }
     {
         let mut bags = Bags::new(alloc);
@@ -48,6 +54,7 @@ impl Bags {
 
     /// Adds a bag at the end, where it is new: it is compared with those of its digest alone.
     pub fn add(&mut self, alloc: Global, bag: Vec<usize>) -> Result<(), NoMemory>
+        requires { IsNonDecreasing bag.items }
         ensures added { OnOk result ((b : List ℕ) → Contains self.new b ↔ (Contains self.old b ⊎ (b ≡ bag.items))) }
         ensures longer { OnOk result (IsLonger self.old self.new) }
     {
@@ -72,9 +79,10 @@ impl Bags {
         Ok(())
     }
 
-    /// How many there are.
+    /// How many there are. No two are the same.
     pub fn len(&self) -> usize
-        ensures { result ≡ length self.now }
+        ensures count { result ≡ length self.now }
+        ensures kept { AreKept self.now }
     {
         self.list.len()
     }
@@ -82,7 +90,8 @@ impl Bags {
     /// The bag at the place.
     pub fn bag(&self, place: usize) -> &[usize]
         requires { place < length self.now }
-        ensures { result.now ≡ get_or self.now place [] }
+        ensures there { result.now ≡ get_or self.now place [] }
+        ensures ascending { IsNonDecreasing result.now }
     {
         self.list[place].as_slice()
     }
@@ -90,14 +99,14 @@ impl Bags {
 
 /// Whether the numbers stand at one of the places.
 fn stand_at(bags: &[Vec<usize>], places: &[usize], bag: &[usize]) -> bool
-    ensures { IsTrue result → Contains (map (λ bag. bag.items) bags.now) bag.now }
+    ensures { IsTrue result ↔ StandsAt (map (λ bag. bag.items) bags.now) places.now bag.now }
 {
     places.iter().any(|place| is_at(bags, *place, bag))
 }
 
 /// Whether the numbers stand at the place.
 fn is_at(bags: &[Vec<usize>], place: usize, bag: &[usize]) -> bool
-    ensures { IsTrue result → Contains (map (λ bag. bag.items) bags.now) bag.now }
+    ensures { IsTrue result ↔ IsAt (map (λ bag. bag.items) bags.now) place bag.now }
 {
     match bags.get(place) {
         Some(other) => other.as_slice() == bag,

@@ -14,7 +14,7 @@ mod tests;
 
 pub use bag::{is_repeated, without};
 pub use bags::Bags;
-pub use digest::{mixed, with_numbers};
+pub use digest::with_numbers;
 pub use places::Places;
 pub use sets::joined;
 use std::alloc::AllocError;

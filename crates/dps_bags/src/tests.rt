@@ -1,14 +1,20 @@
 //! A table of bags, with how many are found.
+ghost use Rattle.std.specs.Prelude.{IfOk};
+ghost use Rattle.std.specs.List.Sorted.{IsNonDecreasing};
+
 use crate::{Bags, NoMemory, joined, without};
 use std::alloc::{AllocError, Global};
 use std::test::Fail;
 
 /// The bag of the digits.
-fn bag(alloc: Global, digits: &str) -> Result<Vec<usize>, NoMemory> {
+fn bag(alloc: Global, digits: &str) -> Result<Vec<usize>, NoMemory>
+    ensures { IfOk result (λ bag. IsNonDecreasing bag.items) }
+{
     let mut bag = Vec::new(alloc);
     for digit in digits.as_bytes() {
         bag.push(*digit as usize)?;
     }
+    bag.sort_unstable();
     Ok(bag)
 }
 

@@ -8,6 +8,8 @@ mod matching;
 mod outcome;
 mod pairing;
 mod replaying;
+#[cfg(test)]
+mod tests;
 mod tests_of;
 
 pub use outcome::Replay;

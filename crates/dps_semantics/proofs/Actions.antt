@@ -14,13 +14,19 @@ use Rattle.dps_process.specs.declared.label.Label.{Label as LabelValue}
 use Rattle.dps_process.specs.declared.label.Label.TheVariants.{In, Out}
 use Rattle.dps_process.specs.Steps.{Config, Label, inputs, outputs, overhears, shows, PartSteps, receives, sends, Communicates, overheard, Step, alone, together, a_part, here, AreOneBag}
 use Rattle.dps_process.proofs.Bags.{bags_refl, bags_trans}
-use Rattle.dps_semantics.specs.Settling.{IsOneOf, AreJust}
+use Rattle.dps_bags.proofs.Keeping.{apart_none, apart_more}
+use Rattle.std.proofs.lemmas.List.Elements.{Contains-get_or}
+use Rattle.dps_semantics.specs.Settling.{IsOneOf, AreJust, EachStandsOnce}
+use Rattle.dps_semantics.proofs.Differing.{acts_apart}
 use Rattle.dps_semantics.specs.Parts.{left_at, part_of, IsNumbered}
 use Rattle.dps_semantics.specs.Asking.{IsAsked, IsNotAsked, GoesOn}
 use Rattle.dps_semantics.specs.Acting.{IsAfter, ActsAt, Acts, AreMoves, AddsMoves}
 use Rattle.dps_semantics.specs.declared.moving.Asked.{Asked}
 use Rattle.dps_semantics.specs.declared.moving.Asked.TheVariants.{Input, Output}
 use Rattle.dps_semantics.proofs.Places.{removes_at, at_removed, two_removed}
+
+abbrev no_config : Config
+no_config = record { parts = []; frame = [] }
 
 -- what a part does for what is asked is one thing
 pub goes_one_way : (theory : Theory) (part : Process) (asked : Asked) (p q : Process) (ts us : List Tree) → IsAccepted theory → GoesOn theory part asked p ts
@@ -167,6 +173,7 @@ module _ (theory : Theory) (asked : Asked) (c : Config) where
           | inl l ↦ inl l
           | inr l ↦ inr (then, added, g, l ∙ e)
         ];
+        at_most_one = inr (d, (then, added, g, e), f);
       }
 
   -- what the first so many parts did was found, and each of them was seen
@@ -174,6 +181,19 @@ module _ (theory : Theory) (asked : Asked) (c : Config) where
     pub known : (n : ℕ) → n < length seen → (j : ℕ) × (j < i) × (part_of seen n ≡ get_or c.parts j nil)
     pub complete : (j : ℕ) → j < i → (d : Config) → ActsAt theory asked c j d → IsOneOf found d
     pub sound : (d : Config) → Contains found d → Acts theory asked c d
+    pub origin : (d : Config) → Contains found d → (j : ℕ) × (j < i) × ActsAt theory asked c j d
+    pub seen_all : (j : ℕ) → j < i → Contains seen (get_or c.parts j nil)
+    pub once : EachStandsOnce found
+
+  pub moves_none : MovesBelow 0 [] []
+  moves_none = record {
+    known = λ n h. absurd (omega (arith, h));
+    complete = λ j h. absurd (omega (arith, h));
+    sound = λ d m. absurd (contains_none d m);
+    origin = λ d m. absurd (contains_none d m);
+    seen_all = λ j h. absurd (omega (arith, h));
+    once = apart_none AreOneBag no_config;
+  }
 
   known_later : (i : ℕ) (seen : List Process) → ((n : ℕ) → n < length seen → (j : ℕ) × (j < i) × (part_of seen n ≡ get_or c.parts j nil)) → (n : ℕ) → n < length seen
       → (j : ℕ) × (j < i + 1) × (part_of seen n ≡ get_or c.parts j nil)
@@ -188,8 +208,28 @@ module _ (theory : Theory) (asked : Asked) (c : Config) where
             (λ j l d q. (let o = k.complete j l d q in (o.0, a.kept o.0 o.1, o.2)))
             (λ d q. (d, a.added d q, bags_refl d));
         sound = λ d q. elim (a.sound d q) [ inl l ↦ k.sound d l | inr l ↦ (i, h, l) ];
+        origin = λ d q. elim (a.sound d q) [ inl l ↦ (let o = k.origin d l in (o.0, omega (arith, o.1), o.2)) | inr l ↦ (i, omega arith, l) ];
+        seen_all = seen_new numbered;
+        once = elim a.at_most_one [
+          | inl f ↦ subst EachStandsOnce (sym f) k.once
+          | inr f ↦ subst EachStandsOnce (sym f.2) (apart_more AreOneBag no_config found f.0 k.once (λ y m. apart y m f.0 f.1 numbered))
+        ];
       }
     where
+      apart : (y : Config) → Contains found y → (d : Config) → ActsAt theory asked c i d → IsNumbered old new (get_or c.parts i nil) n → ¬ AreOneBag y d
+      apart y m d q (inl f) = absurd (omega (arith, f.1.0, e))
+      apart y m d q (inr f) =
+          let o = k.origin y m in
+          let other : ¬ (get_or c.parts o.0 nil ≡ get_or c.parts i nil) = λ s. f.2 (subst (λ (p : Process). Contains old p) s (k.seen_all o.0 o.1)) in
+          acts_apart theory asked c o.0 i (omega (arith, o.1, h)) h other y d o.2 q
+
+      seen_new : IsNumbered old new (get_or c.parts i nil) n → (j : ℕ) → j < i + 1 → Contains new (get_or c.parts j nil)
+      seen_new (inl f) = absurd (omega (arith, f.1.0, e))
+      seen_new (inr f) =
+          subst (λ (t : List Process). (j : ℕ) → j < i + 1 → Contains t (get_or c.parts j nil)) (sym f.0)
+          (below_next (λ j. Contains (old ++ get_or c.parts i nil ∷ []) (get_or c.parts j nil)) i (λ j l. (contains_pushed old (get_or c.parts i nil) (get_or c.parts j nil)).1 (inl (k.seen_all j l)))
+          ((contains_pushed old (get_or c.parts i nil) (get_or c.parts i nil)).1 (inr refl)))
+
       part : Process
       part = get_or c.parts i nil
 
@@ -201,7 +241,7 @@ module _ (theory : Theory) (asked : Asked) (c : Config) where
       at_new m (inr l) = (i, omega arith, get_or_push old part nil m (sym l))
 
       known_new : IsNumbered old new part n → (m : ℕ) → m < length new → (j : ℕ) × (j < i + 1) × (part_of new m ≡ get_or c.parts j nil)
-      known_new (inl f) m l = absurd (omega (arith, f.1, e))
+      known_new (inl f) m l = absurd (omega (arith, f.1.0, e))
       known_new (inr f) m l =
           let within : m < length old + 1 = subst (λ (z : ℕ). m < z) (ap length f.0 ∙ length-append old (part ∷ [])) l in
           let p = at_new m (last_or_before m within) in
@@ -212,12 +252,15 @@ module _ (theory : Theory) (asked : Asked) (c : Config) where
       → MovesBelow (i + 1) new found
   moves_same i n old new found h k (inr f) e = absurd (e f.1)
   moves_same i n old new found h k (inl f) e =
-      let p = k.known n f.1 in
-      let same : get_or c.parts i nil ≡ get_or c.parts p.0 nil = sym f.2 ∙ p.2 in
+      let p = k.known n f.1.0 in
+      let same : get_or c.parts i nil ≡ get_or c.parts p.0 nil = sym f.1.1 ∙ p.2 in
       subst (λ (t : List Process). MovesBelow (i + 1) t found) (sym f.0) (record {
         known = known_later i old k.known;
         complete = below_next (λ m. (d : Config) → ActsAt theory asked c m d → IsOneOf found d) i k.complete (λ d q. as_before p.0 p.1 same d q);
         sound = k.sound;
+        origin = λ d q. (let o = k.origin d q in (o.0, omega (arith, o.1), o.2));
+        seen_all = below_next (λ j. Contains old (get_or c.parts j nil)) i k.seen_all (subst (λ (p : Process). Contains old p) f.1.1 (Contains-get_or old n nil f.1.0));
+        once = k.once;
       })
     where
       as_before : (j : ℕ) → j < i → get_or c.parts i nil ≡ get_or c.parts j nil → (d : Config) → ActsAt theory asked c i d → IsOneOf found d

@@ -11,7 +11,7 @@ use Rattle.dps_process.specs.Process.{Process}
 use Rattle.dps_process.specs.Steps.{Config, start, Label, AreOneBag}
 use Rattle.dps_process.specs.Traces.{Runs, done, IsTraceOf}
 use Rattle.dps_process.proofs.Bags.{bags_refl, bags_trans, bags_sym, step_reordered}
-use Rattle.dps_semantics.specs.Settling.{SettlesTo, IsOneOf, IsInSomeOrder, AreJust, AreSettlings}
+use Rattle.dps_semantics.specs.Settling.{SettlesTo, IsOneOf, IsInSomeOrder, AreJust, AreSettlings, EachStandsOnce}
 use Rattle.dps_semantics.specs.Words.{EndsIn, HasFrame, AreEnds, IsStuckAt}
 use Rattle.dps_semantics.specs.Following.{AreFollowing}
 use Rattle.dps_semantics.specs.Coming.{AllComeTo, no_meeting, at_end}
@@ -116,11 +116,12 @@ module _ (problem : Problem) (side : Side) where
   found_trace word configs frame j h =
       let d = (j h.0).0 (h.0, h.1, bags_refl h.0) in (d.0, d.1.run, d.2.frame ∙ h.2)
 
-  pub ends_are : (word : List Label) (configs : List Config) → AreJust (EndsIn problem side word) configs → 0 < length configs → AreEnds problem side word configs
-  ends_are word configs j h = record {
+  pub ends_are : (word : List Label) (configs : List Config) → AreJust (EndsIn problem side word) configs → EachStandsOnce configs → 0 < length configs → AreEnds problem side word configs
+  ends_are word configs j once h = record {
     just = j;
     frames = λ frame. (found_trace word configs frame j, trace_found word configs frame j);
     some = h;
+    once = once;
   }
 
   -- some run has the word

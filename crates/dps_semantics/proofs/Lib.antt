@@ -9,12 +9,15 @@ pub mod Collecting
 pub mod Cases
 pub mod Lists
 pub mod Numbering
+pub mod Digesting
+pub mod Distinct
 pub mod Places
 pub mod Meetings
 pub mod Receptions
 pub mod Senders
 pub mod Closure
 pub mod Settled
+pub mod Differing
 pub mod Actions
 pub mod Words
 pub mod Total

@@ -71,7 +71,7 @@ repeated_at table ns i h (j, e, f) =
     let equal : get_or ps j nil ≡ get_or ps (suc j) nil = subst (λ (k : ℕ). get_or ps j nil ≡ get_or ps k nil) next (sym same) in
     (j, omega (arith, e), same, ap (λ k. left_at k ps) next ∙ same_left ps j nil last equal)
 
-draws_within : {n m : ℕ} {ns rest : List ℕ} → Draws n ns rest → Contains rest m → Contains ns m
+pub draws_within : {n m : ℕ} {ns rest : List ℕ} → Draws n ns rest → Contains rest m → Contains ns m
 draws_within {n} {m} (drawn_here {ns}) c = contains_later n ns m c
 draws_within {n} {m} (drawn_there {m = k} {ns} {rest} d) c =
     elim (contains_cases k rest m c) [

@@ -1,15 +1,22 @@
 -- Configurations kept once.
 use Rattle.std.proofs.Common.{◌≡◌, ℕ, ◌<◌, ◌+◌, List, [], ◌∷◌, ◌++◌, length, get_or, refl, sym, ◌∙◌, ap, subst, inl, inr, arith, length-append}
-use Rattle.std.specs.Prelude.{◌⊎◌, ◌↔◌}
-use Rattle.std.specs.List.Sorted.{IsPermutation}
+use Rattle.std.specs.Prelude.{◌⊎◌, ◌↔◌, Contains}
+use Rattle.std.specs.List.Sorted.{IsPermutation, IsNonDecreasing}
 use Rattle.std.proofs.lemmas.List.{map-append, get_or_append_left, get_or_push}
 use Rattle.std.proofs.lemmas.List.Elements.{Contains-get_or, Contains-append_cases}
 use Rattle.std.proofs.lemmas.List.Sorted.{Contains-permutation, IsPermutation-sym}
-use Rattle.dps_bags.proofs.Holding.{contains_none, contains_one, contains_pushed}
-use Rattle.dps_process.specs.Process.{Process}
+use Rattle.dps_bags.proofs.Holding.{contains_none, contains_one, contains_pushed, has_place, HasPlace}
+use Rattle.dps_terms.specs.Tree.{Tree}
+use Rattle.dps_process.specs.Process.{Process, nil}
 use Rattle.dps_process.specs.Steps.{Config, IsReordered, AreOneBag}
 use Rattle.dps_process.proofs.Bags.{reordered_trans, reordered_sym}
-use Rattle.dps_semantics.specs.Settling.{IsOneOf}
+use Rattle.dps_bags.specs.Apart.{StandOnce}
+use Rattle.dps_bags.specs.declared.places.Places.{Places}
+use Rattle.dps_bags.specs.Places.{numbers_at, IsNoted}
+use Rattle.dps_bags.proofs.Keeping.{apart_none, apart_more, before_or_last, note_stays, note_there}
+use Rattle.dps_semantics.specs.Settling.{IsOneOf, EachStandsOnce}
+use Rattle.dps_semantics.specs.Digest.{config_digest}
+use Rattle.dps_semantics.proofs.Distinct.{same_parts}
 use Rattle.dps_semantics.specs.Parts.{part_of, parts_of, AreNumbers, IsGrown, IsNumbered}
 use Rattle.dps_semantics.specs.Once.{AreSame, AreNumbersOf, config_at, IsKept}
 use Rattle.dps_semantics.proofs.Tables.{grown_more, parts_stay, numbers_stay, permuted}
@@ -34,19 +41,40 @@ number_more processes old mid new p numbers n h k =
       parts = map-append (part_of new) numbers (n ∷ []) ∙ (ap (λ ps. ps ++ part_of new n ∷ []) (parts_stay mid new numbers has.grown h.within ∙ h.parts) ∙ ap (λ q. processes ++ q ∷ []) has.there);
     }
 
-pub number_all : (processes old new : List Process) (numbers sorted : List ℕ) → NumbersBelow processes old new numbers → IsPermutation numbers sorted → AreNumbersOf processes old new sorted
-number_all processes old new numbers sorted h p = record {
+pub number_all : (processes old new : List Process) (numbers sorted : List ℕ) → NumbersBelow processes old new numbers → IsPermutation numbers sorted → IsNonDecreasing sorted → AreNumbersOf processes old new sorted
+number_all processes old new numbers sorted h p a = record {
   grown = h.grown;
   within = λ n c. h.within n (Contains-permutation sorted numbers n (IsPermutation-sym numbers sorted p) c);
   parts = subst (λ (ps : List Process). IsReordered (parts_of new sorted) ps) h.parts (reordered_sym (permuted new numbers sorted p));
+  ascending = a;
 }
 
--- What is left and what is kept are all; the numbers of each that is kept stand beside it.
-pub record OnceBelow (all left : List Config) (table : List Process) (keys : List (List ℕ)) (once : List Config) : Type 0 where
+-- What stands for a configuration that is kept: the numbers of its parts, noted at its digest by its place.
+pub record StandsFor (table : List Process) (places : Places) (numbers : List ℕ) (c : Config) (i : ℕ) : Type 0 where
+  pub within : AreNumbers table numbers
+  pub parts : IsReordered (parts_of table numbers) c.parts
+  pub ascending : IsNonDecreasing numbers
+  pub noted : Contains (numbers_at places (config_digest c.frame numbers)) i
+
+abbrev Grows : Places → Places → Type 0
+Grows before after = (e m : ℕ) → Contains (numbers_at before e) m → Contains (numbers_at after e) m
+
+stands_still : (old new : List Process) (before after : Places) (numbers : List ℕ) (c : Config) (i : ℕ) → IsGrown old new → Grows before after → StandsFor old before numbers c i
+    → StandsFor new after numbers c i
+stands_still old new before after numbers c i g k s = record {
+  within = numbers_stay old new numbers g s.within;
+  parts = subst (λ (ps : List Process). IsReordered ps c.parts) (sym (parts_stay old new numbers g s.within)) s.parts;
+  ascending = s.ascending;
+  noted = k (config_digest c.frame numbers) i s.noted;
+}
+
+-- What is left and what is kept are all, and what is kept stands once; the numbers of each that is kept stand beside it.
+pub record OnceBelow (all left : List Config) (table : List Process) (keys : List (List ℕ)) (once : List Config) (places : Places) : Type 0 where
   pub same : (k : Config) → IsOneOf all k ↔ (IsOneOf left k ⊎ IsOneOf once k)
   pub long : length keys ≡ length once
-  pub within : (i : ℕ) → i < length keys → AreNumbers table (get_or keys i [])
-  pub parts : (i : ℕ) → i < length keys → IsReordered (parts_of table (get_or keys i [])) (config_at once i).parts
+  pub parts_once : StandOnce nil table
+  pub stand : (i : ℕ) → i < length keys → StandsFor table places (get_or keys i []) (config_at once i) i
+  pub once_each : EachStandsOnce once
 
 none_of : (k : Config) → ¬ IsOneOf [] k
 none_of k o = contains_none o.0 o.1
@@ -57,10 +85,56 @@ one_pushed left c k = (
   elim [ inl o ↦ (o.0, (contains_pushed left c o.0).1 (inl o.1), o.2) | inr b ↦ (c, (contains_pushed left c c).1 (inr refl), b) ],
 )
 
+abbrev no_config : Config
+no_config = record { parts = []; frame = [] }
+
+pub once_none : (all : List Config) (places : Places) → OnceBelow all all [] [] [] places
+once_none all places = record {
+  same = λ k. (λ o. inl o, elim [ inl o ↦ o | inr o ↦ absurd (none_of k o) ]);
+  long = refl;
+  parts_once = apart_none (λ (p q : Process). p ≡ q) nil;
+  stand = λ i l. absurd (omega (arith, l));
+  once_each = apart_none AreOneBag no_config;
+}
+
+-- one that is not kept yet is none of those that are
+not_yet : (all left : List Config) (c : Config) (old new : List Process) (keys : List (List ℕ)) (numbers : List ℕ) (once : List Config) (places : Places)
+    → OnceBelow all left old keys once places → AreNumbersOf c.parts old new numbers → ¬ IsKept keys once (numbers_at places (config_digest c.frame numbers)) numbers c.frame → (y : Config)
+    → Contains once y → ¬ AreOneBag y c
+not_yet all left c old new keys numbers once places h n k y m b =
+    k (i, subst (λ (ns : List ℕ). Contains (numbers_at places (config_digest c.frame ns)) i) key (subst (λ (f : List Tree). Contains (numbers_at places (config_digest f (get_or keys i []))) i) frame s.noted), ((l, key), (p.1, frame)))
+  where
+    p : HasPlace once no_config y
+    p = has_place once no_config y m
+
+    i : ℕ
+    i = p.0
+
+    l : i < length keys
+    l = subst (λ (n : ℕ). i < n) (sym h.long) p.1
+
+    s : StandsFor old places (get_or keys i []) (config_at once i) i
+    s = h.stand i l
+
+    frame : (config_at once i).frame ≡ c.frame
+    frame = ap (λ (x : Config). x.frame) p.2 ∙ b.frame
+
+    order : IsReordered (parts_of new (get_or keys i [])) (parts_of new numbers)
+    order =
+        let now = subst (λ (ps : List Process). IsReordered ps (config_at once i).parts) (sym (parts_stay old new (get_or keys i []) n.grown s.within)) s.parts in
+        let there = subst (λ (x : Config). IsReordered (parts_of new (get_or keys i [])) x.parts) p.2 now in
+        reordered_trans there (reordered_trans b.parts (reordered_sym n.parts))
+
+    key : get_or keys i [] ≡ numbers
+    key = same_parts new (n.grown.once h.parts_once) (get_or keys i []) numbers (numbers_stay old new (get_or keys i []) n.grown s.within) n.within s.ascending n.ascending order
+
 -- one that is not kept yet
-pub once_more : (all left : List Config) (c : Config) (old new : List Process) (keys : List (List ℕ)) (numbers : List ℕ) (once more : List Config)
-    → OnceBelow all (left ++ c ∷ []) old keys once → AreNumbersOf c.parts old new numbers → more ≡ once ++ c ∷ [] → OnceBelow all left new (keys ++ numbers ∷ []) more
-once_more all left c old new keys numbers once more h n e = subst (OnceBelow all left new (keys ++ numbers ∷ [])) (sym e) (record {
+pub once_more : (all left : List Config) (c : Config) (old new : List Process) (keys : List (List ℕ)) (numbers : List ℕ) (once more : List Config) (before after : Places)
+    → OnceBelow all (left ++ c ∷ []) old keys once before → AreNumbersOf c.parts old new numbers → more ≡ once ++ c ∷ []
+    → IsNoted before after (config_digest c.frame numbers) (length once)
+    → ¬ IsKept keys once (numbers_at before (config_digest c.frame numbers)) numbers c.frame
+    → OnceBelow all left new (keys ++ numbers ∷ []) more after
+once_more all left c old new keys numbers once more before after h n e noted not_kept = subst (λ (cs : List Config). OnceBelow all left new (keys ++ numbers ∷ []) cs after) (sym e) (record {
   same = λ k. (
     λ o. elim ((h.same k).0 o) [
       | inl p ↦ elim ((one_pushed left c k).0 p) [ inl q ↦ inl q | inr b ↦ inr ((one_pushed once c k).1 (inr b)) ]
@@ -72,36 +146,36 @@ once_more all left c old new keys numbers once more h n e = subst (OnceBelow all
     ],
   );
   long = length-append keys (numbers ∷ []) ∙ (ap (λ m. m + 1) h.long ∙ sym (length-append once (c ∷ [])));
-  within = λ i l. at_within i (last_or_before i l);
-  parts = λ i l. at_parts i (last_or_before i l);
+  parts_once = n.grown.once h.parts_once;
+  stand = λ i l. at_place i (before_or_last keys numbers i l);
+  once_each = apart_more AreOneBag no_config once c h.once_each (not_yet all (left ++ c ∷ []) c old new keys numbers once before h n not_kept);
 })
   where
-    last_or_before : (i : ℕ) → i < length (keys ++ numbers ∷ []) → (i < length keys) ⊎ (i ≡ length keys)
-    last_or_before i l = let m = length-append keys (numbers ∷ []) in grind (arith, l, m)
+    grows : Grows before after
+    grows e m k = note_stays before after (config_digest c.frame numbers) (length once) e m noted k
 
-    at_within : (i : ℕ) → (i < length keys) ⊎ (i ≡ length keys) → AreNumbers new (get_or (keys ++ numbers ∷ []) i [])
-    at_within i (inl l) =
-        subst (AreNumbers new) (sym (get_or_append_left keys (numbers ∷ []) [] i l)) (numbers_stay old new (get_or keys i []) n.grown (h.within i l))
-    at_within i (inr l) = subst (AreNumbers new) (sym (get_or_push keys numbers [] i (sym l))) n.within
+    placed : (i : ℕ) (key : List ℕ) (d : Config) → get_or (keys ++ numbers ∷ []) i [] ≡ key → config_at (once ++ c ∷ []) i ≡ d → StandsFor new after key d i
+        → StandsFor new after (get_or (keys ++ numbers ∷ []) i []) (config_at (once ++ c ∷ []) i) i
+    placed i key d f g s =
+        subst (λ (ns : List ℕ). StandsFor new after ns (config_at (once ++ c ∷ []) i) i) (sym f) (subst (λ (x : Config). StandsFor new after key x i) (sym g) s)
 
-    at_parts : (i : ℕ) → (i < length keys) ⊎ (i ≡ length keys) → IsReordered (parts_of new (get_or (keys ++ numbers ∷ []) i [])) (config_at (once ++ c ∷ []) i).parts
-    at_parts i (inl l) =
-        let key = get_or_append_left keys (numbers ∷ []) [] i l in
+    last_there : (i : ℕ) → i ≡ length once → Contains (numbers_at after (config_digest c.frame numbers)) i
+    last_there i f =
+        subst (λ (m : ℕ). Contains (numbers_at after (config_digest c.frame numbers)) m) (sym f) (note_there before after (config_digest c.frame numbers) (length once) noted)
+
+    at_place : (i : ℕ) → (i < length keys) ⊎ (i ≡ length keys) → StandsFor new after (get_or (keys ++ numbers ∷ []) i []) (config_at (once ++ c ∷ []) i) i
+    at_place i (inl l) =
         let there : i < length once = subst (λ (m : ℕ). i < m) h.long l in
-        let one : config_at (once ++ c ∷ []) i ≡ config_at once i = get_or_append_left once (c ∷ []) (record { parts = []; frame = [] }) i there in
-        let table : parts_of new (get_or (keys ++ numbers ∷ []) i []) ≡ parts_of old (get_or keys i []) = ap (parts_of new) key ∙ parts_stay old new (get_or keys i []) n.grown (h.within i l) in
-        subst (λ (x : Config). IsReordered (parts_of new (get_or (keys ++ numbers ∷ []) i [])) x.parts) (sym one)
-        (subst (λ (ps : List Process). IsReordered ps (config_at once i).parts) (sym table) (h.parts i l))
-    at_parts i (inr l) =
-        let key = get_or_push keys numbers [] i (sym l) in
-        let one : config_at (once ++ c ∷ []) i ≡ c = get_or_push once c (record { parts = []; frame = [] }) i (sym (l ∙ h.long)) in
-        subst (λ (x : Config). IsReordered (parts_of new (get_or (keys ++ numbers ∷ []) i [])) x.parts) (sym one)
-        (subst (λ (ns : List ℕ). IsReordered (parts_of new ns) c.parts) (sym key) n.parts)
+        placed i (get_or keys i []) (config_at once i) (get_or_append_left keys (numbers ∷ []) [] i l) (get_or_append_left once (c ∷ []) no_config i there)
+        (stands_still old new before after (get_or keys i []) (config_at once i) i n.grown grows (h.stand i l))
+    at_place i (inr l) =
+        placed i numbers c (get_or_push keys numbers [] i (sym l)) (get_or_push once c no_config i (sym (l ∙ h.long)))
+        (record { within = n.within; parts = n.parts; ascending = n.ascending; noted = last_there i (l ∙ h.long) })
 
 -- one that is kept
-pub once_same : (all left : List Config) (c : Config) (old new : List Process) (keys : List (List ℕ)) (numbers : List ℕ) (once : List Config)
-    → OnceBelow all (left ++ c ∷ []) old keys once → AreNumbersOf c.parts old new numbers → IsKept keys once numbers c.frame → OnceBelow all left new keys once
-once_same all left c old new keys numbers once h n (i, (l, e), (m, f)) = record {
+pub once_same : (all left : List Config) (c : Config) (old new : List Process) (keys : List (List ℕ)) (numbers : List ℕ) (once : List Config) (places : Places) (ns : List ℕ)
+    → OnceBelow all (left ++ c ∷ []) old keys once places → AreNumbersOf c.parts old new numbers → IsKept keys once ns numbers c.frame → OnceBelow all left new keys once places
+once_same all left c old new keys numbers once places ns h n (i, j, ((l, e), (m, f))) = record {
   same = λ k. (
     λ o. elim ((h.same k).0 o) [
       | inl p ↦ elim ((one_pushed left c k).0 p) [ inl q ↦ inl q | inr b ↦ inr (one_as once c k kept b) ]
@@ -110,8 +184,9 @@ once_same all left c old new keys numbers once h n (i, (l, e), (m, f)) = record 
     elim [ inl p ↦ (h.same k).1 (inl ((one_pushed left c k).1 (inl p))) | inr p ↦ (h.same k).1 (inr p) ],
   );
   long = h.long;
-  within = λ j k. numbers_stay old new (get_or keys j []) n.grown (h.within j k);
-  parts = λ j k. subst (λ (ps : List Process). IsReordered ps (config_at once j).parts) (sym (parts_stay old new (get_or keys j []) n.grown (h.within j k))) (h.parts j k);
+  parts_once = n.grown.once h.parts_once;
+  stand = λ j k. stands_still old new places places (get_or keys j []) (config_at once j) j n.grown (λ e m x. x) (h.stand j k);
+  once_each = h.once_each;
 }
   where
     there : Config
@@ -119,15 +194,16 @@ once_same all left c old new keys numbers once h n (i, (l, e), (m, f)) = record 
 
     order : IsReordered there.parts c.parts
     order =
-        let first = subst (λ (ps : List Process). IsReordered ps there.parts) (sym (parts_stay old new (get_or keys i []) n.grown (h.within i l))) (h.parts i l) in
+        let s = h.stand i l in
+        let first = subst (λ (ps : List Process). IsReordered ps there.parts) (sym (parts_stay old new (get_or keys i []) n.grown s.within)) s.parts in
         let same = subst (λ (ns : List ℕ). IsReordered (parts_of new ns) there.parts) e first in
         reordered_trans (reordered_sym same) n.parts
 
     kept : IsOneOf once c
-    kept = (there, Contains-get_or once i (record { parts = []; frame = [] }) m, record { parts = order; frame = f })
+    kept = (there, Contains-get_or once i no_config m, record { parts = order; frame = f })
 
-pub once_all : (all : List Config) (table : List Process) (keys : List (List ℕ)) (once : List Config) → OnceBelow all [] table keys once → AreSame all once
-once_all all table keys once h k = (
+pub once_all : (all : List Config) (table : List Process) (keys : List (List ℕ)) (once : List Config) (places : Places) → OnceBelow all [] table keys once places → AreSame all once
+once_all all table keys once places h k = (
   λ o. elim ((h.same k).0 o) [ inl p ↦ absurd (none_of k p) | inr p ↦ p ],
   λ o. (h.same k).1 (inr o),
 )

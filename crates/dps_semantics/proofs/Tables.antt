@@ -14,10 +14,14 @@ use Rattle.dps_process.proofs.Bags.{reordered_refl, reordered_trans, reordered_s
 use Rattle.dps_semantics.specs.Parts.{part_of, parts_of, AreNumbers, AreAllNumbers, IsGrown, OneStandsFor, HoldsInOrder, StandForJust, Both}
 
 pub grown_none : (table : List Process) → IsGrown table table
-grown_none table = record { more = []; grown = sym (append-nil table) }
+grown_none table = record { more = []; grown = sym (append-nil table); once = λ o. o }
 
 pub grown_more : (old mid new : List Process) → IsGrown old mid → IsGrown mid new → IsGrown old new
-grown_more old mid new h k = record { more = h.more ++ k.more; grown = k.grown ∙ (ap (λ ps. ps ++ k.more) h.grown ∙ append_assoc old h.more k.more) }
+grown_more old mid new h k = record {
+  more = h.more ++ k.more;
+  grown = k.grown ∙ (ap (λ ps. ps ++ k.more) h.grown ∙ append_assoc old h.more k.more);
+  once = λ o. k.once (h.once o);
+}
 
 pub number_stays : (old new : List Process) (n : ℕ) → IsGrown old new → n < length old → n < length new
 number_stays old new n g h =

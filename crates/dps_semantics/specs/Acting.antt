@@ -1,5 +1,5 @@
 -- The configurations in which one part did what a label asks.
-use Rattle.std.specs.Prelude.{◌≡◌, ◌⊎◌, ◌↔◌, ◌<◌, ℕ, List, ◌∷◌, ◌++◌, length, get_or, Contains}
+use Rattle.std.specs.Prelude.{◌≡◌, ◌⊎◌, ◌↔◌, ◌<◌, ℕ, List, ◌∷◌, [], ◌++◌, length, get_or, Contains}
 use Rattle.dps_terms.specs.Tree.{Tree}
 use Rattle.dps_theory.specs.Theory.{Theory}
 use Rattle.dps_process.specs.Process.{Process, nil}
@@ -29,3 +29,4 @@ pub record AddsMoves (theory : Theory) (asked : Asked) (c : Config) (i : ℕ) (o
   pub kept : (d : Config) → Contains old d → Contains new d
   pub added : (d : Config) → ActsAt theory asked c i d → Contains new d
   pub sound : (d : Config) → Contains new d → Contains old d ⊎ ActsAt theory asked c i d
+  pub at_most_one : (new ≡ old) ⊎ ((d : Config) × ActsAt theory asked c i d × (new ≡ old ++ d ∷ []))

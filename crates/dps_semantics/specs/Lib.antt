@@ -1,4 +1,5 @@
 pub mod Stored
+pub mod Digest
 pub mod Settling
 pub mod Words
 pub mod Coming

@@ -1,5 +1,6 @@
 -- What numbers of parts stand for.
 use Rattle.std.specs.Prelude.{◌≡◌, ◌⊎◌, ◌<◌, ◌+◌, ℕ, List, [], ◌∷◌, ◌++◌, length, map, get_or, take, drop, Contains}
+use Rattle.dps_bags.specs.Apart.{StandOnce}
 use Rattle.dps_process.specs.Process.{Process, nil}
 use Rattle.dps_process.specs.Steps.{IsReordered}
 
@@ -17,15 +18,24 @@ AreNumbers table ns = (n : ℕ) → Contains ns n → n < length table
 abbrev pub AreAllNumbers : List Process → List (List ℕ) → Type 0
 AreAllNumbers table bags = (bag : List ℕ) → Contains bags bag → AreNumbers table bag
 
--- the new table has the parts of the old one, with the same numbers
+-- the part has the number
+abbrev pub IsPartAt : List Process → ℕ → Process → Type 0
+IsPartAt table n p = (n < length table) × (part_of table n ≡ p)
+
+-- it has none of these numbers
+abbrev pub IsNowhere : List Process → List ℕ → Process → Type 0
+IsNowhere table ns p = (k : ℕ) → k < length ns → ¬ IsPartAt table (get_or ns k 0) p
+
+-- the new table has the parts of the old one, with the same numbers; no part stands there twice where none did before
 pub record IsGrown (old new : List Process) : Type 0 where
   pub more : List Process
   pub grown : new ≡ old ++ more
+  pub once : StandOnce nil old → StandOnce nil new
 
 -- the part is not new and has the number, or it is the new one at the end
 abbrev pub IsNumbered : List Process → List Process → Process → ℕ → Type 0
 IsNumbered old new p n =
-    ((new ≡ old) × (n < length old) × (part_of old n ≡ p)) ⊎ ((new ≡ old ++ p ∷ []) × (n ≡ length old))
+    ((new ≡ old) × IsPartAt old n p) ⊎ ((new ≡ old ++ p ∷ []) × (n ≡ length old) × (¬ Contains old p))
 
 -- some bag stands for the parts, in some order
 abbrev pub OneStandsFor : List Process → List (List ℕ) → List Process → Type 0

@@ -7,6 +7,7 @@ use Rattle.dps_process.specs.Models.{Model}
 use Rattle.dps_process.specs.Problem.{Problem}
 use Rattle.dps_process.specs.Steps.{Config, Label, shows, Step, AreOneBag}
 use Rattle.dps_process.specs.Traces.{Runs}
+use Rattle.dps_bags.specs.Apart.{AreApart}
 
 -- an input or an output
 abbrev pub IsPrefix : Process → Type 0
@@ -26,6 +27,10 @@ pub record SettlesTo (model : Model) (signature : Signature) (theory : Theory) (
 -- one of the list, with its parts in some order
 abbrev pub IsOneOf : List Config → Config → Type 0
 IsOneOf configs k = (c : Config) × Contains configs c × AreOneBag c k
+
+-- no two of the list are the same up to the order of their parts
+abbrev pub EachStandsOnce : List Config → Type 0
+EachStandsOnce configs = AreApart AreOneBag (record { parts = []; frame = [] }) configs
 
 -- one of those for which P holds, with its parts in some order
 abbrev pub IsInSomeOrder : (Config → Type 0) → Config → Type 0

@@ -5,7 +5,7 @@ use Rattle.dps_terms.specs.Tree.{Tree}
 use Rattle.dps_process.specs.Problem.{Problem, side_of}
 use Rattle.dps_process.specs.Steps.{Config, start, Label}
 use Rattle.dps_process.specs.Traces.{Runs, IsTraceOf}
-use Rattle.dps_semantics.specs.Settling.{IsSettled, AreJust}
+use Rattle.dps_semantics.specs.Settling.{IsSettled, AreJust, EachStandsOnce}
 
 -- a run of the side with this word leads to d, and only inputs and outputs stand there
 pub record EndsIn (problem : Problem) (side : Side) (word : List Label) (d : Config) : Type 0 where
@@ -17,11 +17,12 @@ abbrev pub HasFrame : List Config → List Tree → Type 0
 HasFrame configs frame = (c : Config) × Contains configs c × (c.frame ≡ frame)
 
 -- The list has just the settled configurations in which runs with this word end, each in some order of its parts, and just
--- the last frames of the traces with this word; and there is one.
+-- the last frames of the traces with this word; there is one, and none stands twice.
 pub record AreEnds (problem : Problem) (side : Side) (word : List Label) (configs : List Config) : Type 0 where
   pub just : AreJust (EndsIn problem side word) configs
   pub frames : (frame : List Tree) → HasFrame configs frame ↔ IsTraceOf problem side word frame
   pub some : 0 < length configs
+  pub once : EachStandsOnce configs
 
 -- The label with this number, counted from 1, is the first that no run passes.
 pub record IsStuckAt (problem : Problem) (side : Side) (word : List Label) (n : ℕ) : Type 0 where

@@ -1,7 +1,7 @@
 //! Steps that the attacker sees.
 ghost use Rattle.std.specs.Prelude.{◌≡◌, ◌∷◌, ◌++◌, ◌<◌, length, IfOk, OnOk};
 ghost use Rattle.dps_process.specs.Labels.{label_of};
-ghost use Rattle.dps_semantics.specs.Settling.{AreNext};
+ghost use Rattle.dps_semantics.specs.Settling.{AreNext, EachStandsOnce};
 ghost use Rattle.dps_semantics.specs.Asking.{IsClosedAsked, added_by};
 ghost use Rattle.dps_semantics.specs.Acting.{AreMoves, AddsMoves, IsAfter};
 
@@ -15,7 +15,7 @@ use dps_terms::{NoMemory, Term};
 use std::alloc::{AllocError, Global};
 
 /// All configurations to which this one comes by a step that shows the label, before they are settled, each in some order
-/// of its parts.
+/// of its parts, and none twice.
 ///
 /// There is none exactly where no part can act so or the label's recipe has no value. It fails for want of memory alone.
 pub fn act(
@@ -24,7 +24,8 @@ pub fn act(
     config: &Config,
     label: &Label,
 ) -> Result<Vec<Config>, NoMemory>
-    ensures { IfOk result (λ configs. AreNext problem.now config.now (label_of label.now) configs.items) }
+    ensures just { IfOk result (λ configs. AreNext problem.now config.now (label_of label.now) configs.items) }
+    ensures once { IfOk result (λ configs. EachStandsOnce configs.items) }
 {
     match what_is_asked(alloc, problem, &config.frame, label)? {
         Some(asked) => all_moved(alloc, problem, config, &asked),
@@ -40,7 +41,8 @@ fn all_moved(
     asked: &Asked,
 ) -> Result<Vec<Config>, NoMemory>
     requires { IsClosedAsked asked.now }
-    ensures { IfOk result (λ configs. AreMoves problem.now.theory asked.now config.now configs.items) }
+    ensures moves { IfOk result (λ configs. AreMoves problem.now.theory asked.now config.now configs.items) }
+    ensures once { IfOk result (λ configs. EachStandsOnce configs.items) }
 {
     let mut seen = Parts::new(alloc);
     let mut found = Vec::new(alloc);

@@ -1,5 +1,6 @@
 //! Communications that nobody sees.
 ghost use Rattle.std.specs.Prelude.{◌<◌, length, IfOk, IfSome, MatchOption};
+ghost use Rattle.std.specs.List.Sorted.{IsNonDecreasing};
 ghost use Rattle.dps_terms.specs.Kinds.{IsClosed};
 ghost use Rattle.dps_theory.specs.Theory.{IsAccepted};
 ghost use Rattle.dps_semantics.specs.Parts.{AreNumbers, AreAllNumbers, OneStandsFor, StandForJust, parts_of};
@@ -54,7 +55,8 @@ fn after_meetings(
     parts: &mut Parts,
     bag: &[usize],
 ) -> Result<Bags, NoMemory>
-    requires { AreNumbers parts.old bag.now }
+    requires numbers { AreNumbers parts.old bag.now }
+    requires ascending { IsNonDecreasing bag.now }
     ensures { IfOk result (StandForJust (ComesByMeeting problem.now.model problem.now.signature problem.now.theory (parts_of parts.old bag.now)) parts.old parts.new) }
 {
     let mut found = Bags::new(alloc);
@@ -77,6 +79,7 @@ fn meetings_at(
 ) -> Result<Bags, NoMemory>
     requires within { index < length bag.now }
     requires numbers { AreNumbers parts.old bag.now }
+    requires ascending { IsNonDecreasing bag.now }
     ensures { IfOk result (StandForJust (MeetsAt problem.now.model problem.now.signature problem.now.theory (parts_of parts.old bag.now) index) parts.old parts.new) }
 {
     match message_of(alloc, problem, parts.part(bag[index]))? {
@@ -127,6 +130,7 @@ fn receptions(
     requires closed { IsClosed sent.now.message }
     requires ones { StandForJust (ComesTo problem.now.theory sent.now.then) parts.old parts.old ones.now }
     requires numbers { AreNumbers parts.old others.now }
+    requires ascending { IsNonDecreasing others.now }
     ensures { IfOk result (StandForJust (IsTaken problem.now.theory sent.now.channel sent.now.message sent.now.then (parts_of parts.old others.now)) parts.old parts.new) }
 {
     let mut found = Bags::new(alloc);
@@ -153,6 +157,7 @@ fn reception_at(
     requires closed { IsClosed sent.now.message }
     requires ones { StandForJust (ComesTo problem.now.theory sent.now.then) parts.old parts.old ones.now }
     requires numbers { AreNumbers parts.old others.now }
+    requires ascending { IsNonDecreasing others.now }
     ensures { IfOk result (StandForJust (TakesAt problem.now.theory sent.now.channel sent.now.message sent.now.then (parts_of parts.old others.now) index) parts.old parts.new) }
 {
     match taken(alloc, parts.part(others[index]), sent)? {

@@ -1,9 +1,11 @@
 //! Configurations, each once.
-ghost use Rattle.std.specs.Prelude.{◌≡◌, map, IfOk, IsTrue};
-ghost use Rattle.dps_semantics.specs.Once.{AreSame, AreNumbersOf, IsKept, IsKeyAt, IsFrameAt};
+ghost use Rattle.std.specs.Prelude.{◌≡◌, ◌↔◌, map, IfOk, IsTrue};
+ghost use Rattle.dps_semantics.specs.Settling.{EachStandsOnce};
+ghost use Rattle.dps_semantics.specs.Digest.{config_digest};
+ghost use Rattle.dps_semantics.specs.Once.{AreSame, AreNumbersOf, IsKept, IsKeptAt, IsKeyAt, IsFrameAt};
 
 use crate::Config;
-use crate::digest::with_term;
+use crate::digest::terms_digest;
 use crate::parts::Parts;
 use dps_bags::{Places, with_numbers};
 use dps_process::Process;
@@ -14,7 +16,8 @@ use std::alloc::{AllocError, Global};
 /// The configurations without those that are another one with its parts in another order: each is compared with those of
 /// its digest alone.
 pub(crate) fn each_once(alloc: Global, configs: Vec<Config>) -> Result<Vec<Config>, NoMemory>
-    ensures { IfOk result (λ once. AreSame configs.items once.items) }
+    ensures same { IfOk result (λ once. AreSame configs.items once.items) }
+    ensures once { IfOk result (λ once. EachStandsOnce once.items) }
 {
     let mut table = Parts::new(alloc);
     let mut places = Places::new(alloc);
@@ -23,7 +26,7 @@ pub(crate) fn each_once(alloc: Global, configs: Vec<Config>) -> Result<Vec<Confi
     let mut left = configs;
     while let Some(config) = left.pop() {
         let numbers = numbers_of(alloc, &mut table, &config.parts)?;
-        let digest = with_numbers(frame_digest(&config.frame), &numbers);
+        let digest = config_digest(&config.frame, &numbers);
         if !is_kept(&keys, &once, places.of(digest), &numbers, &config.frame) {
             places.add(alloc, digest, once.len())?;
             keys.push(numbers)?;
@@ -50,13 +53,11 @@ fn numbers_of(
     Ok(numbers)
 }
 
-/// A digest of the messages.
-fn frame_digest(frame: &Frame) -> u64 {
-    let mut digest = 0;
-    for message in &frame.messages {
-        digest = with_term(digest, message);
-    }
-    digest
+/// The digest of the messages and the numbers.
+fn config_digest(frame: &Frame, numbers: &[usize]) -> u64
+    ensures { result ≡ config_digest frame.now numbers.now }
+{
+    with_numbers(terms_digest(listed(frame)), numbers)
 }
 
 /// Whether the numbers and the frame stand at one of the places.
@@ -67,19 +68,32 @@ fn is_kept(
     numbers: &[usize],
     frame: &Frame,
 ) -> bool
-    ensures { IsTrue result → IsKept (map (λ key. key.items) keys.now) once.now numbers.now frame.now }
+    ensures { IsTrue result ↔ IsKept (map (λ key. key.items) keys.now) once.now places.now numbers.now frame.now }
 {
     for index in 0..places.len() {
-        if is_key_at(keys, places[index], numbers) && is_frame_at(once, places[index], frame) {
+        if is_kept_at(keys, once, places[index], numbers, frame) {
             return true;
         }
     }
     false
 }
 
+/// Whether the numbers and the frame stand at the place.
+fn is_kept_at(
+    keys: &[Vec<usize>],
+    once: &[Config],
+    place: usize,
+    numbers: &[usize],
+    frame: &Frame,
+) -> bool
+    ensures { IsTrue result ↔ IsKeptAt (map (λ key. key.items) keys.now) once.now place numbers.now frame.now }
+{
+    is_key_at(keys, place, numbers) && is_frame_at(once, place, frame)
+}
+
 /// Whether the numbers stand at the place.
 fn is_key_at(keys: &[Vec<usize>], place: usize, numbers: &[usize]) -> bool
-    ensures { IsTrue result → IsKeyAt (map (λ key. key.items) keys.now) place numbers.now }
+    ensures { IsTrue result ↔ IsKeyAt (map (λ key. key.items) keys.now) place numbers.now }
 {
     match keys.get(place) {
         Some(key) => key.as_slice() == numbers,
@@ -89,7 +103,7 @@ fn is_key_at(keys: &[Vec<usize>], place: usize, numbers: &[usize]) -> bool
 
 /// Whether the configuration at the place has the frame.
 fn is_frame_at(once: &[Config], place: usize, frame: &Frame) -> bool
-    ensures { IsTrue result → IsFrameAt once.now place frame.now }
+    ensures { IsTrue result ↔ IsFrameAt once.now place frame.now }
 {
     match once.get(place) {
         Some(config) => are_same(messages(config), listed(frame)),
@@ -113,7 +127,7 @@ fn listed(frame: &Frame) -> &[Term]
 
 /// Whether both have the same messages.
 fn are_same(one: &[Term], other: &[Term]) -> bool
-    ensures { IsTrue result → one.now ≡ other.now }
+    ensures { IsTrue result ↔ (one.now ≡ other.now) }
 {
     if one.len() != other.len() {
         return false;

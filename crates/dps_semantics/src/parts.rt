@@ -1,6 +1,6 @@
 //! Inputs and outputs by number, each once.
-ghost use Rattle.std.specs.Prelude.{◌≡◌, ◌<◌, [], length, slice_get, Some, IfOk, IfSome};
-ghost use Rattle.dps_semantics.specs.Parts.{IsNumbered, AreNumbers, part_of, parts_of};
+ghost use Rattle.std.specs.Prelude.{◌≡◌, ◌↔◌, ◌<◌, [], length, IfOk, IsTrue, MatchOption};
+ghost use Rattle.dps_semantics.specs.Parts.{IsNumbered, AreNumbers, IsPartAt, IsNowhere, part_of, parts_of};
 
 use crate::digest::with_process;
 use dps_bags::Places;
@@ -27,6 +27,12 @@ impl Model for Parts {
     ghost coded = { coded_list process_code };
 
     ghost view = { λ a. a.list.items };
+
+    ghost use Rattle.dps_bags.specs.Places.{AllNoted};
+    ghost use Rattle.dps_process.specs.Process.{nil};
+    ghost use Rattle.dps_semantics.specs.Digest.{process_digest};
+
+    ghost invariant = { λ a. AllNoted (process_digest 0) nil a.list.items a.places };
 }
 
 impl Parts {
@@ -86,14 +92,22 @@ impl Parts {
 
 /// Which of the numbers is one of this part.
 fn part_among(parts: &[Process], numbers: &[usize], part: &Process) -> Option<usize>
-    ensures { IfSome result (λ n. slice_get parts.now n ≡ Some part.now) }
+    ensures { MatchOption result (IsNowhere parts.now numbers.now part.now) (λ n. IsPartAt parts.now n part.now) }
 {
-    for number in numbers {
-        if let Some(other) = parts.get(*number) {
-            if other.equals(part) {
-                return Some(*number);
-            }
+    for index in 0..numbers.len() {
+        if is_part_at(parts, numbers[index], part) {
+            return Some(numbers[index]);
         }
     }
     None
+}
+
+/// Whether the part has the number.
+fn is_part_at(parts: &[Process], number: usize, part: &Process) -> bool
+    ensures { IsTrue result ↔ IsPartAt parts.now number part.now }
+{
+    match parts.get(number) {
+        Some(other) => other.equals(part),
+        None => false,
+    }
 }

@@ -1,7 +1,7 @@
 //! The runs of a side with a word.
 ghost use Rattle.std.specs.Prelude.{◌<◌, ◌^◌, [], length, map, IfOk, OnOk};
 ghost use Rattle.dps_process.specs.Labels.{label_of};
-ghost use Rattle.dps_semantics.specs.Settling.{AreJust};
+ghost use Rattle.dps_semantics.specs.Settling.{AreJust, EachStandsOnce};
 ghost use Rattle.dps_semantics.specs.Words.{EndsIn};
 ghost use Rattle.dps_semantics.specs.Answers.{IsAnswer};
 ghost use Rattle.dps_semantics.specs.Following.{AreFollowing, AddsFollowing};
@@ -16,9 +16,9 @@ use dps_recipes::Frame;
 use dps_terms::NoMemory;
 use std::alloc::{AllocError, Global};
 
-/// The ends of the runs of the side with the word: the settled configurations, each in some order of its parts. Their
-/// frames are those in which traces with the word end. Where there is none, it answers the number, from 1, of the first
-/// label that no run passes.
+/// The ends of the runs of the side with the word: the settled configurations, each in some order of its parts, and none
+/// twice. Their frames are those in which traces with the word end. Where there is none, it answers the number, from 1, of
+/// the first label that no run passes.
 ///
 /// The word has fewer than 2^31 labels. It fails for want of memory alone.
 pub fn runs(alloc: Global, problem: &Problem, side: Side, word: &[Label]) -> Result<Runs, NoMemory>
@@ -37,7 +37,8 @@ pub fn runs(alloc: Global, problem: &Problem, side: Side, word: &[Label]) -> Res
 
 /// What the side settles to before the first label.
 fn started(alloc: Global, problem: &Problem, side: Side) -> Result<Vec<Config>, NoMemory>
-    ensures { IfOk result (λ configs. AreJust (EndsIn problem.now side []) configs.items) }
+    ensures just { IfOk result (λ configs. AreJust (EndsIn problem.now side []) configs.items) }
+    ensures once { IfOk result (λ configs. EachStandsOnce configs.items) }
 {
     let mut parts = Vec::new(alloc);
     parts.push(problem.side(side).copy(alloc)?)?;
@@ -54,7 +55,8 @@ fn following(
     configs: &[Config],
     label: &Label,
 ) -> Result<Vec<Config>, NoMemory>
-    ensures { IfOk result (λ found. AreFollowing problem.now configs.now (label_of label.now) found.items) }
+    ensures just { IfOk result (λ found. AreFollowing problem.now configs.now (label_of label.now) found.items) }
+    ensures once { IfOk result (λ found. EachStandsOnce found.items) }
 {
     let mut found = Vec::new(alloc);
     for index in 0..configs.len() {

@@ -1,6 +1,8 @@
 //! What silent steps reach.
 ghost use Rattle.std.specs.Prelude.{◌≡◌, IfOk};
-ghost use Rattle.dps_semantics.specs.Settling.{AreSettlings};
+ghost use Rattle.dps_bags.specs.Apart.{StandOnce};
+ghost use Rattle.dps_process.specs.Process.{nil};
+ghost use Rattle.dps_semantics.specs.Settling.{AreSettlings, EachStandsOnce};
 ghost use Rattle.dps_semantics.specs.Parts.{AreAllNumbers};
 ghost use Rattle.dps_semantics.specs.Configs.{AreConfigsOf};
 
@@ -15,9 +17,10 @@ use dps_terms::{NoMemory, Term};
 use std::alloc::{AllocError, Global};
 
 /// All configurations in which only inputs and outputs stand and to which silent steps lead, each in some order of its
-/// parts. It fails for want of memory alone.
+/// parts, and none twice. It fails for want of memory alone.
 pub fn settle(alloc: Global, problem: &Problem, config: Config) -> Result<Vec<Config>, NoMemory>
-    ensures { IfOk result (λ configs. AreSettlings problem.now config configs.items) }
+    ensures just { IfOk result (λ configs. AreSettlings problem.now config configs.items) }
+    ensures once { IfOk result (λ configs. EachStandsOnce configs.items) }
 {
     let config = &config;
     let mut parts = Parts::new(alloc);
@@ -33,8 +36,10 @@ pub(crate) fn configs(
     bags: &Bags,
     frame: &Frame,
 ) -> Result<Vec<Config>, NoMemory>
-    requires { AreAllNumbers parts.now bags.now }
-    ensures { IfOk result (λ configs. AreConfigsOf parts.now bags.now frame.now configs.items) }
+    requires numbers { AreAllNumbers parts.now bags.now }
+    requires parts { StandOnce nil parts.now }
+    ensures are { IfOk result (λ configs. AreConfigsOf parts.now bags.now frame.now configs.items) }
+    ensures once { IfOk result (λ configs. EachStandsOnce configs.items) }
 {
     let mut configs = Vec::with_capacity(alloc, bags.len())?;
     for index in 0..bags.len() {

@@ -30,8 +30,8 @@ loop-index-preserved c =
           (moves_same theory asked config i n old new c.loop-index.found.items within c.loop-index.invariant numbered (λ e. w.if-number-known.false (e ∙ sym c.len-known.ensures)))
     ]
 
-pub returns : goal.returns
-returns c =
+pub returns-clause-moves : goal.returns-clause-moves
+returns-clause-moves c =
     let i = c.loop-index.index in
     let inside : length c.config.inside.parts.items ≤ i = omega (arith, c.loop-index-test.false, c.len-index-end.ensures, c.config.inside.parts.ok) in
     moves_all c.args.problem.now.theory c.args.asked.now c.args.config.now i c.loop-index.seen c.loop-index.found.items (subst (λ (k : Config). length k.parts ≤ i) c.config.view_is inside)

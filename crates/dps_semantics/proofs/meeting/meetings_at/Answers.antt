@@ -20,7 +20,7 @@ receptions-requires-clause-numbers c =
     let old = c.args.parts.now in
     let mid = c.comes_to.new.parts in
     let rest = left_numbers old c.args.bag.now c.args.index c.requires.within c.requires.numbers in
-    subst (AreNumbers mid) (sym (c.deref.ensures.value ∙ c.in_ok-others-in-Some.ensures))
+    subst (AreNumbers mid) (sym (c.deref.ensures.value ∙ c.in_ok-others-in-Some.ensures.rest))
     (numbers_stay old mid (left_at c.args.index c.args.bag.now) c.in_ok-ones-in-Some.ensures.grown rest)
 
 pub returns-in_ok-ones-in-Some : goal.returns-in_ok-ones-in-Some
@@ -37,7 +37,7 @@ returns-in_ok-ones-in-Some c =
     IfOk-weaker c.receptions.result _ (λ bags. StandForJust (MeetsAt p.model p.signature p.theory (parts_of old bag) i) old new bags)
     (λ bags j. meeting_stands p.model p.signature p.theory bag c.deref.result.now i sent.channel sent.message sent.then old mid new bags c.requires.numbers c.message_of.ensures.accepted
     (subst (λ (q : Process). Sends p.model p.signature p.theory q sent.channel sent.message sent.then) same sends) c.in_ok-ones-in-Some.ensures.grown
-    (c.deref.ensures.value ∙ c.in_ok-others-in-Some.ensures) j) c.receptions.ensures
+    (c.deref.ensures.value ∙ c.in_ok-others-in-Some.ensures.rest) j) c.receptions.ensures
 
 pub returns-in-None : goal.returns-in-None
 returns-in-None c =

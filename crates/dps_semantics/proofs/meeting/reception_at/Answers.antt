@@ -28,7 +28,7 @@ returns-in_ok-both-in-Some c =
     (λ bags j. reception_stands theory sent.channel sent.message sent.then others i old new c.in-Some.then c.args.ones.now c.in_ok-theirs-in-Some.theirs c.in_ok-rest-in-Some.rest
     c.in_ok-both-in-Some.both bags c.requires.ones c.requires.numbers c.requires.within
     (subst (λ (p : Process). Takes p sent.channel sent.message c.in-Some.then) same takes) c.in_ok-theirs-in-Some.ensures
-    (rw c.in_ok-without-in-Some.ensures at c.in_ok-rest-in-Some.ensures) c.in_ok-both-in-Some.ensures j) c.joined-in-Some.ensures
+    (rw c.in_ok-without-in-Some.ensures.rest at c.in_ok-rest-in-Some.ensures) c.in_ok-both-in-Some.ensures j) c.joined-in-Some.ensures
 
 pub returns-in-None : goal.returns-in-None
 returns-in-None c =

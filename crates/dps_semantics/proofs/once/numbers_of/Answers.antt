@@ -1,4 +1,5 @@
 use Rattle.std.proofs.Common.{List, take}
+use Rattle.std.proofs.lemmas.List.Sorted.{IsNonDecreasingBy-from_sort}
 use Rattle.dps_process.specs.Process.{Process}
 use Rattle.dps_semantics.proofs.Lists.{taken_more, taken_all}
 use Rattle.dps_semantics.proofs.Singles.{NumbersBelow, number_more, number_all}
@@ -22,3 +23,4 @@ returns c =
     let numbers = c.loop-index.numbers.items in
     number_all processes old new numbers c.sort_unstable.new.self.items
     (taken_all (λ (ps : List Process). NumbersBelow ps old new numbers) processes c.loop-index.index c.loop-index-test.false c.loop-index.invariant) c.sort_unstable.ensures.permutation
+    (IsNonDecreasingBy-from_sort (λ x. x) c.sort_unstable.new.self.items c.sort_unstable.ensures.sorted)

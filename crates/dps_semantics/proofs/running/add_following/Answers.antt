@@ -14,9 +14,9 @@ loop-next-preserved c =
     let old = c.args.found.now.items in
     let left = c.pop.new.self.items in
     let found = c.loop-next.found.items in
-    next_more p config label moved old left found c.in_ok-settled.settled.items c.append.new.self.items c.in-Some.next c.in_ok-left.ensures
+    next_more p config label moved old left found c.in_ok-settled.settled.items c.append.new.self.items c.in-Some.next c.in_ok-left.ensures.just
     (subst (λ (ls : List Config). NextBelow p config label moved old ls found) c.in-Some.ensures.items c.loop-next.invariant)
-    c.in_ok-settled.ensures c.in_ok-append.ensures.items
+    c.in_ok-settled.ensures.just c.in_ok-append.ensures.items
 
 pub returns : goal.returns
 returns c =
@@ -27,4 +27,4 @@ returns c =
     let old = c.args.found.now.items in
     let found = c.loop-next.found.items in
     let none = no_items_left c.loop-next.left.items (λ h. true≢false (sym (c.in_default.ensures.variant.1 (omega (arith, h, c.loop-next.left.ok))))) in
-    next_all p config label moved old found c.in_ok-left.ensures (subst (λ (ls : List Config). NextBelow p config label moved old ls found) none c.loop-next.invariant)
+    next_all p config label moved old found c.in_ok-left.ensures.just (subst (λ (ls : List Config). NextBelow p config label moved old ls found) none c.loop-next.invariant)
