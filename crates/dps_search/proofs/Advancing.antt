@@ -13,7 +13,7 @@ use Rattle.dps_search.specs.declared.task.Task.{Task}
 use Rattle.dps_search.specs.declared.task.Turn.{Turn}
 use Rattle.dps_search.specs.declared.task.Turn.TheVariants.{Ended, Moved, Branched}
 use Rattle.dps_search.specs.Code.{solution_seen}
-use Rattle.dps_search.specs.Putting.{IsUnifiedBy}
+use Rattle.dps_bindings.specs.Putting.{IsUnifiedBy}
 use Rattle.dps_search.specs.Tasks.{IsTurn}
 use Rattle.dps_search.specs.Agenda.{IsStart, IsBegin, IsAdvance, TakesMove}
 use Rattle.dps_search.proofs.Agendas.{start_on, no_start, begin_none, begin_one, none_turn, some_turn, moved_turn, branched_turn, IsListing, listing_goes_on, all_listed, all_spent, last_first}

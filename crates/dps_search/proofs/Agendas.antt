@@ -13,7 +13,7 @@ use Rattle.dps_search.specs.declared.scene.Mgs.{Mgs}
 use Rattle.dps_search.specs.declared.branch.Branch.{Branch as CodeBranch}
 use Rattle.dps_search.specs.declared.task.Task.{Task}
 use Rattle.dps_search.specs.Code.{branch_of, solution_seen}
-use Rattle.dps_search.specs.Putting.{IsUnifiedBy}
+use Rattle.dps_bindings.specs.Putting.{IsUnifiedBy}
 use Rattle.dps_search.specs.Tasks.{TaskLists, solutions, AreJoined, IsOneLater}
 use Rattle.dps_search.specs.Agenda.{AgendaLists, nothing, first, IsLeft, IsBegin, IsAdvance, TakesMove}
 use Rattle.dps_search.proofs.Turning.{begins}

@@ -12,7 +12,7 @@ use Rattle.dps_solver.specs.Scene.{Scene}
 use Rattle.dps_solver.specs.Search.{Branch, AreNewlyBound, use_entry, entry_equation, Leads}
 use Rattle.dps_solver.specs.declared.scene.Target.{Target}
 use Rattle.dps_search.specs.Going.{entered}
-use Rattle.dps_search.specs.Putting.{IsUnifiedBy}
+use Rattle.dps_bindings.specs.Putting.{IsUnifiedBy}
 use Rattle.dps_search.specs.declared.branch.Branch.{Branch as CodeBranch}
 use Rattle.dps_search.specs.Code.{branch_of}
 use Rattle.dps_search.specs.Meetings.{IsEnteredBy}

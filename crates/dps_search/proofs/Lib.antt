@@ -1,10 +1,6 @@
-pub mod Puts
-pub mod Newly
 pub mod Stepping
 pub mod Nodes
 pub mod Above
-pub mod InTurn
-pub mod Setting
 pub mod Rooted
 pub mod Finished
 pub mod Options

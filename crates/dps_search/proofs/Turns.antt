@@ -18,7 +18,7 @@ use Rattle.dps_search.specs.declared.task.Turn.{Turn}
 use Rattle.dps_search.specs.declared.task.Turn.TheVariants.{Ended, Moved, Branched, Refused}
 use Rattle.dps_search.specs.Code.{branch_of, solution_seen}
 use Rattle.dps_search.specs.Going.{IsFollowed, entered}
-use Rattle.dps_search.specs.Putting.{IsUnifiedBy}
+use Rattle.dps_bindings.specs.Putting.{IsUnifiedBy}
 use Rattle.dps_search.specs.Ways.{ways_behind, IsNextStep}
 use Rattle.dps_search.specs.Finishing.{IsFinished}
 use Rattle.dps_search.specs.Tasks.{ListsBehind, TaskLists, AreJoined, IsOneLater, IsTurn, IsNextOf, IsPassed}

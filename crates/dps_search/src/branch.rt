@@ -6,13 +6,10 @@ ghost use Rattle.dps_terms.specs.Seen.{seen};
 ghost use Rattle.dps_solver.specs.Search.{with_bound, with_one_bound, lowered, composed};
 ghost use Rattle.dps_solver.specs.Levels.{IsVariableUpTo};
 ghost use Rattle.dps_search.specs.Code.{branch_of};
-ghost use Rattle.dps_search.specs.Pieces.{piece_tree};
+ghost use Rattle.dps_bindings.specs.Pieces.{piece_tree};
 ghost use Rattle.dps_search.specs.Going.{with_one_tree, IsFollowed, targets_from};
 
-use crate::bindings::{Bindings, put};
-use crate::piece::{Given, Piece};
-use crate::pieces::root_over;
-use crate::unified::level;
+use dps_bindings::{Bindings, Given, Piece, level, put, root_over};
 use dps_solver::Target;
 use dps_terms::{NoMemory, Term, TermLeaf, TermRef, TermView};
 use dps_unify::VarOrder;

@@ -10,13 +10,10 @@ ghost use Rattle.dps_search.specs.Going.{entered};
 ghost use Rattle.dps_search.specs.Tasks.{IsEntered};
 ghost use Rattle.dps_search.specs.Meetings.{IsEnteredBy};
 
-use crate::bindings::Bindings;
 use crate::branch::{Branch, add_bound};
 use crate::meeting::{Meeting, compare_entry, value_at};
-use crate::piece::{Given, Piece};
-use crate::pieces::with_given;
 use crate::scene::Scene;
-use crate::unified::{Unified, unify};
+use dps_bindings::{Bindings, Given, Piece, Unified, unify, with_given};
 use dps_solver::Target;
 use dps_terms::{NoMemory, Term, TermLeaf};
 use dps_unify::VarOrder;

@@ -10,9 +10,9 @@ ghost use Rattle.dps_search.specs.Code.{scene_of, branch_of};
 ghost use Rattle.dps_search.specs.Numbers.{root_numbers};
 ghost use Rattle.dps_search.specs.Meetings.{AreApart, IsMeeting, IsMeetingOf};
 
-use crate::bindings::Bindings;
 use crate::branch::Branch;
 use crate::scene::Scene;
+use dps_bindings::Bindings;
 use dps_solver::Target;
 use dps_terms::{Term, TermRef, TermView};
 
