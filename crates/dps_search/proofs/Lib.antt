@@ -6,6 +6,7 @@ pub mod Finished
 pub mod Options
 pub mod Turning
 pub mod Turns
+pub mod Passed
 pub mod Agendas
 pub mod Advancing
 pub mod Comparing

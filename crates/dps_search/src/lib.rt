@@ -9,6 +9,7 @@ mod entering;
 mod finishing;
 mod meeting;
 mod numbers;
+mod passing;
 mod scene;
 mod search;
 mod step;

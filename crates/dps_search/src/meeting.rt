@@ -1,10 +1,11 @@
 //! Whether two terms may become equal, as far as it shows without a unifier.
-ghost use Rattle.std.specs.Prelude.{◌≡◌, ℕ, [], ◌↔◌, false, unwrap_or, IsTrue};
+ghost use Rattle.std.specs.Prelude.{◌≡◌, ℕ, [], ◌∷◌, ◌↔◌, false, unwrap_or, IsTrue};
 ghost use Rattle.std.specs.Option.{option_copied};
 ghost use Rattle.dps_terms.specs.Tree.{Tree};
 ghost use Rattle.dps_terms.specs.Bindings.{image};
 ghost use Rattle.dps_terms.specs.Kinds.{IsClosed};
-ghost use Rattle.dps_terms.specs.Replace.{numbered};
+ghost use Rattle.dps_terms.specs.Replace.{numbered, substitute};
+ghost use Rattle.dps_unify.specs.Unifier.{IsNotUnifiable};
 ghost use Rattle.dps_terms.specs.Seen.{seen};
 ghost use Rattle.dps_search.specs.Code.{scene_of, branch_of};
 ghost use Rattle.dps_search.specs.Numbers.{root_numbers};
@@ -51,10 +52,20 @@ pub(crate) fn value_at(values: &[Term], number: u64) -> Option<&Term>
 fn compare(theta: &Bindings, value: TermRef<'_>, term: TermRef<'_>) -> Meeting
     ensures { IsMeeting (image theta.now) (seen value.entry) (seen term.entry) result }
 {
-    if may_be_equal(theta.at_root(value).view(), theta.at_root(term).view()) {
-        return compare_whole(value, term);
+    if are_apart(theta, value, term) {
+        return Meeting::Never;
     }
-    Meeting::Never
+    compare_whole(value, term)
+}
+
+/// Whether the roots of the two terms, with what is put for variables, show that nothing makes them equal.
+pub(crate) fn are_apart(theta: &Bindings, value: TermRef<'_>, term: TermRef<'_>) -> bool
+    ensures { IsTrue result → IsNotUnifiable ((substitute (image theta.now) (seen value.entry), substitute (image theta.now) (seen term.entry)) ∷ []) }
+{
+    if may_be_equal(theta.at_root(value).view(), theta.at_root(term).view()) {
+        return false;
+    }
+    true
 }
 
 /// What shows of the two terms, whatever is put for variables. Terms without variables need no unifier.

@@ -8,6 +8,7 @@ ghost use Rattle.dps_search.specs.Agenda.{IsStart, IsBegin, IsAdvance, TakesMove
 use crate::branch::{Branch, add_bound};
 use crate::entering::copies;
 use crate::numbers::first_new;
+use crate::passing::pass_apart;
 use crate::scene::{Ask, Mgs, Scene, Steps, Stop};
 use crate::task::{Task, Turn, take_turn};
 use dps_bindings::{Bindings, Unified, nothing_given, unify};
@@ -36,7 +37,8 @@ pub fn solve(alloc: Global, scene: &Scene, ask: &Ask, steps: &mut Steps) -> Resu
     ensures budget { steps.new.budget ≡ steps.old.budget }
 {
     let mut search = begin(alloc, scene, ask)?;
-    while let Some(task) = search.agenda.pop() {
+    while let Some(mut task) = search.agenda.pop() {
+        steps.used += pass_apart(scene, &mut task, steps.budget - steps.used);
         advance(alloc, scene, ask, &mut search, task, steps)?;
     }
     Ok(search.found)

@@ -65,7 +65,7 @@ pub(crate) fn take_turn(
 }
 
 /// The next way.
-fn step_of(scene: &Scene, task: &Task) -> Option<Step>
+pub(crate) fn step_of(scene: &Scene, task: &Task) -> Option<Step>
     requires { 0 < length task.now.branch.targets.items }
     ensures { IsNextOf (system_of scene.now) (branch_of task.now.branch) task.now.branch.targets.items task.now.passed result }
 {
