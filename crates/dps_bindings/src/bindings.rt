@@ -47,6 +47,14 @@ impl Bindings {
         }
     }
 
+    /// Nothing is put for a variable, and there is room for so many.
+    fn with_room(alloc: Global, count: usize) -> Result<Bindings, NoMemory>
+        ensures { IfOk result (λ s. s ≡ []) }
+    {
+        let terms = IndexMap::with_capacity(alloc, count)?;
+        Ok(Bindings { terms })
+    }
+
     /// What is put for the variable.
     pub fn get(&self, variable: u64) -> Option<&Term>
         ensures { option_copied result ≡ bound self.now variable }
@@ -91,7 +99,7 @@ impl Bindings {
     pub fn copy(&self, alloc: Global) -> Result<Bindings, NoMemory>
         ensures { IfOk result (λ s. s ≡ self.now) }
     {
-        let mut copies = Bindings::empty(alloc);
+        let mut copies = Bindings::with_room(alloc, self.len())?;
         for index in 0..self.len() {
             let (variable, term) = self.pair(index);
             let copy = term.copy(alloc)?;
@@ -171,7 +179,7 @@ pub(crate) fn then(
 fn instances(alloc: Global, before: &Bindings, by: &Subst) -> Result<Bindings, NoMemory>
     ensures { IfOk result (λ s. s ≡ map (under (image by.now)) before.now) }
 {
-    let mut after = Bindings::empty(alloc);
+    let mut after = Bindings::with_room(alloc, before.len())?;
     for index in 0..before.len() {
         let (variable, term) = before.pair(index);
         let instance = term.subst(alloc, by)?;

@@ -2,6 +2,7 @@ pub mod Stepping
 pub mod Nodes
 pub mod Above
 pub mod Rooted
+pub mod Walked
 pub mod Finished
 pub mod Options
 pub mod Turning

@@ -11,6 +11,7 @@ ghost use Rattle.dps_search.specs.Tasks.{IsEntered};
 ghost use Rattle.dps_search.specs.Meetings.{IsEnteredBy};
 
 use crate::branch::{Branch, add_bound};
+use crate::closed::instance;
 use crate::meeting::{Meeting, compare_entry, value_at};
 use crate::scene::Scene;
 use dps_bindings::{Bindings, Given, Piece, Unified, unify, with_given};
@@ -85,7 +86,7 @@ fn entry_pair(
     ensures { IfOk result (λ v. v.items ≡ entry_equation (scene_of scene.now) (branch_of branch.now) target.now entry) }
 {
     let value = entry_value(alloc, &scene.values, &branch.theta, entry)?;
-    let term = target.term.whole().replaced(alloc, &branch.theta)?;
+    let term = instance(alloc, &branch.theta, target.term.whole())?;
     let mut pairs = Vec::with_capacity(alloc, 1)?;
     pairs.push((value, term))?;
     Ok(pairs)
@@ -101,7 +102,7 @@ fn entry_value(
     ensures { IfOk result (λ t. t ≡ substitute (image theta.now) (numbered values.now entry (leaf (entry_leaf entry)))) }
 {
     match value_at(values, entry) {
-        Some(value) => value.whole().replaced(alloc, theta),
+        Some(value) => instance(alloc, theta, value.whole()),
         None => Term::entry(alloc, entry),
     }
 }

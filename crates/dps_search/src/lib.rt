@@ -5,6 +5,7 @@
 #![tactic(auto)]
 
 mod branch;
+mod closed;
 mod entering;
 mod finishing;
 mod meeting;

@@ -1,7 +1,7 @@
 use Rattle.std.proofs.Common.{◌≡◌, ◌+◌, ◌-◌, arith}
 use Rattle.dps_terms.specs.Seen.{seen}
 use Rattle.dps_search.proofs.Nodes.{from_end, none_more, closed_by_none}
-use Rattle.dps_search.proofs.meeting.is_closed.Goals as goal
+use Rattle.dps_search.proofs.closed.is_closed.Goals as goal
 
 pub loop-left-init : goal.loop-left-init
 loop-left-init c = record {

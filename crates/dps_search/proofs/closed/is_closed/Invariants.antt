@@ -4,7 +4,7 @@ use Rattle.dps_terms.specs.Tree.{node_count}
 use Rattle.dps_terms.specs.Seen.{seen}
 use Rattle.dps_terms.specs.Walk.{subterms_from}
 use Rattle.dps_terms.specs.Variables.{occurrences}
-use Rattle.dps_search.proofs.meeting.is_closed.Given as goal
+use Rattle.dps_search.proofs.closed.is_closed.Given as goal
 
 abbrev pub invariant-loop-left : goal.invariant-loop-left
 invariant-loop-left l = record {
