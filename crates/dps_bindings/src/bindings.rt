@@ -168,18 +168,23 @@ pub(crate) fn then(
     requires { (n : ℕ) (t : Tree) → bound by.now n ≡ Some t → Contains variables.now n }
     ensures { IfOk result (λ s. image s ≡ (λ x. substitute (image by.now) (image before.now x))) }
 {
-    let mut after = instances(alloc, before, by)?;
+    let mut after = instances(alloc, before, by, variables.len())?;
     for variable in variables {
         bind_once(alloc, &mut after, by, *variable)?;
     }
     Ok(after)
 }
 
-/// The terms with what `by` binds in the place of its variables.
-fn instances(alloc: Global, before: &Bindings, by: &Subst) -> Result<Bindings, NoMemory>
+/// The terms with what `by` binds in the place of its variables, and room for so many more.
+fn instances(
+    alloc: Global,
+    before: &Bindings,
+    by: &Subst,
+    more: usize,
+) -> Result<Bindings, NoMemory>
     ensures { IfOk result (λ s. s ≡ map (under (image by.now)) before.now) }
 {
-    let mut after = Bindings::with_room(alloc, before.len())?;
+    let mut after = Bindings::with_room(alloc, before.len().saturating_add(more))?;
     for index in 0..before.len() {
         let (variable, term) = before.pair(index);
         let instance = term.subst(alloc, by)?;
