@@ -1,5 +1,5 @@
 -- Substitutions put one after the other.
-use Rattle.std.specs.Prelude.{◌≡◌, ◌⊎◌, ℕ, nat_eq, if◌then◌else◌, List, [], ◌∷◌, Some, None}
+use Rattle.std.specs.Prelude.{◌≡◌, ◌⊎◌, ℕ, nat_eq, if◌then◌else◌, List, [], ◌∷◌, Some, None, slice_get}
 use Rattle.dps_terms.specs.Tree.{var, Tree, leaf}
 use Rattle.dps_terms.specs.Replace.{substitute}
 use Rattle.dps_terms.specs.Bindings.{bound, image}
@@ -21,6 +21,10 @@ in_turn ps x = after_all ps (leaf (var x))
 -- t for x, and z for the others
 abbrev pub image_with : ℕ → Tree → (ℕ → Tree) → ℕ → Tree
 image_with x t z y = if nat_eq y x then t else z y
+
+-- the variable and its term are the pair at this place
+abbrev pub IsPlaceOf : List (ℕ × Tree) → ℕ → ℕ → Type 0
+IsPlaceOf pairs x i = (t : Tree) × (slice_get pairs i ≡ Some (x, t))
 
 -- What is bound stays. Besides, the variable alone is bound, to what u binds it to, where it was not bound and u binds it.
 pub record IsOnceBound (u : List (ℕ × Tree)) (x : ℕ) (old new : List (ℕ × Tree)) : Type 0 where

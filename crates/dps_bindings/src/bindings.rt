@@ -1,5 +1,5 @@
 //! What is put for variables in a branch of the search.
-ghost use Rattle.std.specs.Prelude.{◌≡◌, ◌<◌, ◌++◌, ◌∷◌, [], ℕ, length, map, slice_get, Contains, None, Some, IfOk, OnOk, OnErr};
+ghost use Rattle.std.specs.Prelude.{◌≡◌, ◌<◌, ◌++◌, ◌∷◌, [], ℕ, length, map, slice_get, Contains, None, Some, IfOk, OnOk, OnErr, MatchOption};
 ghost use Rattle.std.specs.Option.{option_copied};
 ghost use Rattle.dps_terms.specs.Tree.{Tree};
 ghost use Rattle.dps_terms.specs.Bindings.{bound, image, IsDistinct};
@@ -7,17 +7,17 @@ ghost use Rattle.dps_terms.specs.Replace.{substitute};
 ghost use Rattle.dps_solver.specs.Search.{then_put};
 ghost use Rattle.dps_terms.specs.Seen.{seen};
 ghost use Rattle.dps_terms.specs.Views.{view_of};
-ghost use Rattle.dps_bindings.specs.Putting.{under, IsOnceBound, image_with};
+ghost use Rattle.dps_bindings.specs.Putting.{under, IsOnceBound, IsPlaceOf, image_with};
 
 use dps_terms::{NoMemory, Replacement, Subst, Term, TermLeaf, TermRef, TermStack, TermView};
-use indexmap::IndexMap;
 use std::alloc::{AllocError, Global};
 use std::marker::Model;
 
-/// Distinct variables, each with the term that is put for it.
+/// Distinct variables, each with the term that is put for it. A search puts few terms, so a variable is looked for from the
+/// first pair on.
 #[derive(Drop)]
 pub struct Bindings {
-    terms: IndexMap<u64, Term>,
+    pairs: Vec<(u64, Term)>,
 }
 
 impl Model for Bindings {
@@ -32,9 +32,9 @@ impl Model for Bindings {
 
     ghost use Rattle.dps_terms.specs.Bindings.{IsDistinct};
 
-    ghost view = { λ a. a.terms.entries };
+    ghost view = { λ a. a.pairs.items };
 
-    ghost invariant = { λ a. IsDistinct a.terms.entries };
+    ghost invariant = { λ a. IsDistinct a.pairs.items };
 }
 
 impl Bindings {
@@ -43,7 +43,7 @@ impl Bindings {
         ensures { result ≡ [] }
     {
         Bindings {
-            terms: IndexMap::new(alloc),
+            pairs: Vec::new(alloc),
         }
     }
 
@@ -51,15 +51,18 @@ impl Bindings {
     fn with_room(alloc: Global, count: usize) -> Result<Bindings, NoMemory>
         ensures { IfOk result (λ s. s ≡ []) }
     {
-        let terms = IndexMap::with_capacity(alloc, count)?;
-        Ok(Bindings { terms })
+        let pairs = Vec::with_capacity(alloc, count)?;
+        Ok(Bindings { pairs })
     }
 
     /// What is put for the variable.
     pub fn get(&self, variable: u64) -> Option<&Term>
         ensures { option_copied result ≡ bound self.now variable }
     {
-        self.terms.get(&variable)
+        match place(&self.pairs, variable) {
+            Some(index) => Some(&self.pairs[index].1),
+            None => None,
+        }
     }
 
     /// The term where it is no variable that has one, and else what is put for it. So the same stands at its root as at the
@@ -81,7 +84,7 @@ impl Bindings {
         ensures count { result ≡ length self.now }
         ensures distinct { IsDistinct self.now }
     {
-        self.terms.len()
+        self.pairs.len()
     }
 
     /// A variable and its term, by its place, counted from 0.
@@ -89,10 +92,8 @@ impl Bindings {
         requires { index < length self.now }
         ensures { slice_get self.now index ≡ Some (result.0, result.1.now) }
     {
-        match self.terms.get_index(index) {
-            Some((variable, term)) => (*variable, term),
-            None => unreachable!(),
-        }
+        let pair = &self.pairs[index];
+        (pair.0, &pair.1)
     }
 
     /// The same pairs, in memory of their own.
@@ -114,7 +115,7 @@ impl Bindings {
         ensures ok { OnOk result (self.new ≡ self.old ++ (variable, term) ∷ []) }
         ensures err { OnErr result (self.new ≡ self.old) }
     {
-        self.terms.insert(variable, term)?;
+        self.pairs.push((variable, term))?;
         Ok(())
     }
 
@@ -122,9 +123,26 @@ impl Bindings {
     pub fn set(&mut self, variable: u64, term: Term) -> Result<(), NoMemory>
         ensures { OnOk result (image self.new ≡ image_with variable term (image self.old)) }
     {
-        self.terms.insert(variable, term)?;
-        Ok(())
+        match place(&self.pairs, variable) {
+            Some(index) => {
+                self.pairs[index].1 = term;
+                Ok(())
+            }
+            None => self.bind(variable, term),
+        }
     }
+}
+
+/// Where the variable stands in the pairs.
+fn place(pairs: &[(u64, Term)], variable: u64) -> Option<usize>
+    ensures { MatchOption result (bound pairs.now variable ≡ None) (λ i. IsPlaceOf pairs.now variable i) }
+{
+    for index in 0..pairs.len() {
+        if pairs[index].0 == variable {
+            return Some(index);
+        }
+    }
+    None
 }
 
 /// What is put for a variable takes its place. All other leaves stay.
