@@ -13,8 +13,8 @@ use Rattle.dps_search.specs.declared.task.Task.{Task}
 use Rattle.dps_search.specs.declared.task.Turn.{Turn}
 use Rattle.dps_search.specs.declared.task.Turn.TheVariants.{Ended, Moved, Branched}
 use Rattle.dps_search.specs.Code.{solution_seen}
-use Rattle.dps_search.specs.Putting.{IsUnifiedBy}
-use Rattle.dps_search.specs.Tasks.{IsTurn}
+use Rattle.dps_bindings.specs.Putting.{IsUnifiedBy}
+use Rattle.dps_search.specs.Tasks.{AreLater, IsTurn}
 use Rattle.dps_search.specs.Agenda.{IsStart, IsBegin, IsAdvance, TakesMove}
 use Rattle.dps_search.proofs.Agendas.{start_on, no_start, begin_none, begin_one, none_turn, some_turn, moved_turn, branched_turn, IsListing, listing_goes_on, all_listed, all_spent, last_first}
 
@@ -67,7 +67,7 @@ module _ (scene : Scene) (ask : Ask) where
     pub advance_moved : (new : List Task) (k : ℕ) → turn ≡ Moved → new ≡ old ++ u ∷ [] → k ≡ 1 → IsAdvance scene ask (t ∷ reverse old) found (reverse new) found k
     advance_moved new k e is n =
         subst₂ (λ (ts : List Task) (m : ℕ). IsAdvance scene ask (t ∷ reverse old) found ts found m) (sym (last_first old new u is)) (sym n)
-        (moved_turn scene ask t (reverse old) found u (turned Moved e).1)
+        (moved_turn scene ask t (reverse old) found u 1 (turned Moved e).1)
 
     pub advance_branched : (b : CodeBranch) (mid new : List Task) (k : ℕ) → turn ≡ Branched b → mid ≡ old ++ u ∷ [] → new ≡ mid ++ fresh_of b ∷ [] → k ≡ 1
         → IsAdvance scene ask (t ∷ reverse old) found (reverse new) found k
@@ -77,22 +77,27 @@ module _ (scene : Scene) (ask : Ask) where
         (branched_turn scene ask t (reverse old) found u b (turned (Branched b) e).1)
 
   -- turn after turn
-  pub goes_on_popped : (agenda rest new : List Task) (t : Task) (found now : List Mgs) (start was is : ℕ) → agenda ≡ rest ++ t ∷ [] → start ≤ was → was ≤ is
-      → IsListing scene ask (reverse agenda) found (was - start) → IsAdvance scene ask (t ∷ reverse rest) found (reverse new) now (is - was)
-      → IsListing scene ask (reverse new) now (is - start)
-  goes_on_popped agenda rest new t found now start was is e l m h a =
+  pub passed_on : (agenda rest : List Task) (t u : Task) (found : List Mgs) (start was count : ℕ) → agenda ≡ rest ++ t ∷ [] → start ≤ was → AreLater scene count t u
+      → IsListing scene ask (reverse agenda) found (was - start) → IsListing scene ask (u ∷ reverse rest) found ((was + count) - start)
+  passed_on agenda rest t u found start was count e l later h =
       let kept : IsListing scene ask (t ∷ reverse rest) found (was - start) =
       subst (λ (ts : List Task). IsListing scene ask ts found (was - start)) (last_first rest agenda t e) h in
-      let total : is - start ≡ (was - start) + (is - was) = omega (arith, l, m) in
-      listing_goes_on scene ask (t ∷ reverse rest) (reverse new) found now (was - start) (is - was) (is - start) kept a total
+      let total : (was + count) - start ≡ (was - start) + count = omega (arith, l) in
+      listing_goes_on scene ask (t ∷ reverse rest) (u ∷ reverse rest) found found (was - start) count ((was + count) - start) kept
+      (moved_turn scene ask t (reverse rest) found u count (later ask)) total
 
-  pub spends : (agenda rest : List Task) (t : Task) (found : List Mgs) (start was budget : ℕ) → agenda ≡ rest ++ t ∷ [] → was ≡ budget
-      → IsListing scene ask (reverse agenda) found (was - start) → TakesMove scene ask t → IsSpentWithin scene ask (budget - start)
-  spends agenda rest t found start was budget e f h m =
-      let kept : IsListing scene ask (t ∷ reverse rest) found (was - start) =
-      subst (λ (ts : List Task). IsListing scene ask ts found (was - start)) (last_first rest agenda t e) h in
+  pub goes_on_popped : (rest new : List Task) (t : Task) (found now : List Mgs) (start was is : ℕ) → start ≤ was → was ≤ is
+      → IsListing scene ask (t ∷ reverse rest) found (was - start) → IsAdvance scene ask (t ∷ reverse rest) found (reverse new) now (is - was)
+      → IsListing scene ask (reverse new) now (is - start)
+  goes_on_popped rest new t found now start was is l m h a =
+      let total : is - start ≡ (was - start) + (is - was) = omega (arith, l, m) in
+      listing_goes_on scene ask (t ∷ reverse rest) (reverse new) found now (was - start) (is - was) (is - start) h a total
+
+  pub spends : (rest : List Task) (t : Task) (found : List Mgs) (start was budget : ℕ) → was ≡ budget
+      → IsListing scene ask (t ∷ reverse rest) found (was - start) → TakesMove scene ask t → IsSpentWithin scene ask (budget - start)
+  spends rest t found start was budget f h m =
       let left : budget - start ≡ was - start = omega (arith, f) in
-      all_spent scene ask t (reverse rest) found (was - start) (budget - start) kept m left
+      all_spent scene ask t (reverse rest) found (was - start) (budget - start) h m left
 
   pub finds : (agenda : List Task) (found : List Mgs) (moved left : ℕ) → agenda ≡ [] → moved ≤ left → IsListing scene ask (reverse agenda) found moved
       → IsFoundWithin scene ask left (map solution_seen found) moved

@@ -13,8 +13,8 @@ use Rattle.dps_search.specs.declared.scene.Mgs.{Mgs}
 use Rattle.dps_search.specs.declared.branch.Branch.{Branch as CodeBranch}
 use Rattle.dps_search.specs.declared.task.Task.{Task}
 use Rattle.dps_search.specs.Code.{branch_of, solution_seen}
-use Rattle.dps_search.specs.Putting.{IsUnifiedBy}
-use Rattle.dps_search.specs.Tasks.{TaskLists, solutions, AreJoined, IsOneLater}
+use Rattle.dps_bindings.specs.Putting.{IsUnifiedBy}
+use Rattle.dps_search.specs.Tasks.{TaskLists, solutions, AreJoined, IsLater}
 use Rattle.dps_search.specs.Agenda.{AgendaLists, nothing, first, IsLeft, IsBegin, IsAdvance, TakesMove}
 use Rattle.dps_search.proofs.Turning.{begins}
 
@@ -120,30 +120,30 @@ module _ (scene : Scene) (ask : Ask) where
     some_turn g now e h = ended_turn (Some g) now e h
 
     module _ (u : Task) where
-      moved_to : ((list : List GeneralSolution) (moves : ℕ) → TaskLists scene ask t list moves ↔ IsOneLater (TaskLists scene ask u) list moves)
-          → (list : List GeneralSolution) (moves : ℕ) → AgendaLists scene ask (t ∷ ts) list moves → IsLeft scene ask (u ∷ ts) [] 1 list moves
-      moved_to h list moves (first {after = after} here before g k l n) =
+      moved_to : (k : ℕ) → ((list : List GeneralSolution) (moves : ℕ) → TaskLists scene ask t list moves ↔ IsLater k (TaskLists scene ask u) list moves)
+          → (list : List GeneralSolution) (moves : ℕ) → AgendaLists scene ask (t ∷ ts) list moves → IsLeft scene ask (u ∷ ts) [] k list moves
+      moved_to k h list moves (first {after = after} here before g a l n) =
           let j = (h here before).0 g in
           record {
             rest = list;
             after = j.left + after;
-            lists = first here j.left j.lists_left k l refl;
+            lists = first here j.left j.lists_left a l refl;
             list_is = refl;
             moves_are = omega (arith, n, j.moves_are);
           }
 
-      moved_from : ((list : List GeneralSolution) (moves : ℕ) → TaskLists scene ask t list moves ↔ IsOneLater (TaskLists scene ask u) list moves)
-          → (list rest : List GeneralSolution) (moves after : ℕ) → AgendaLists scene ask (u ∷ ts) rest after → list ≡ rest → moves ≡ 1 + after
+      moved_from : (k : ℕ) → ((list : List GeneralSolution) (moves : ℕ) → TaskLists scene ask t list moves ↔ IsLater k (TaskLists scene ask u) list moves)
+          → (list rest : List GeneralSolution) (moves after : ℕ) → AgendaLists scene ask (u ∷ ts) rest after → list ≡ rest → moves ≡ k + after
           → AgendaLists scene ask (t ∷ ts) list moves
-      moved_from h list rest moves after (first here before g k l n) e m =
-          first {moves = moves} here (1 + before) ((h here (1 + before)).1 (record { left = before; lists_left = g; moves_are = refl })) k (e ∙ l) (omega (arith, m, n))
+      moved_from k h list rest moves after (first here before g a l n) e m =
+          first {moves = moves} here (k + before) ((h here (k + before)).1 (record { left = before; lists_left = g; moves_are = refl })) a (e ∙ l) (omega (arith, m, n))
 
-      pub moved_turn : ((list : List GeneralSolution) (moves : ℕ) → TaskLists scene ask t list moves ↔ IsOneLater (TaskLists scene ask u) list moves)
-          → IsAdvance scene ask (t ∷ ts) found (u ∷ ts) found 1
-      moved_turn h = record {
+      pub moved_turn : (k : ℕ) → ((list : List GeneralSolution) (moves : ℕ) → TaskLists scene ask t list moves ↔ IsLater k (TaskLists scene ask u) list moves)
+          → IsAdvance scene ask (t ∷ ts) found (u ∷ ts) found k
+      moved_turn k h = record {
         more = [];
         now_is = nothing_more found;
-        lists = λ list moves. (moved_to h list moves, λ j. moved_from h list j.rest moves j.after j.lists j.list_is j.moves_are);
+        lists = λ list moves. (moved_to k h list moves, λ j. moved_from k h list j.rest moves j.after j.lists j.list_is j.moves_are);
       }
 
       module _ (b : CodeBranch)

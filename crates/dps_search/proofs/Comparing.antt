@@ -4,7 +4,6 @@ use Rattle.std.proofs.lemmas.List.Elements.{All-nil, All-cons, All-head}
 use Rattle.dps_terms.specs.Tree.{var, entry, Tree, leaf}
 use Rattle.dps_terms.specs.Replace.{substitute, numbered}
 use Rattle.dps_terms.specs.Bindings.{bound, image}
-use Rattle.dps_terms.specs.Kinds.{IsClosed}
 use Rattle.dps_unify.specs.Unifier.{IsMgu, IsNotUnifiable}
 use Rattle.dps_unify.proofs.Trees.{substitute_itself}
 use Rattle.dps_know.proofs.Listing.{in_none}
@@ -12,13 +11,12 @@ use Rattle.dps_solver.specs.Scene.{Scene}
 use Rattle.dps_solver.specs.Search.{Branch, AreNewlyBound, use_entry, entry_equation, Leads}
 use Rattle.dps_solver.specs.declared.scene.Target.{Target}
 use Rattle.dps_search.specs.Going.{entered}
-use Rattle.dps_search.specs.Putting.{IsUnifiedBy}
+use Rattle.dps_bindings.specs.Putting.{IsUnifiedBy}
 use Rattle.dps_search.specs.declared.branch.Branch.{Branch as CodeBranch}
 use Rattle.dps_search.specs.Code.{branch_of}
 use Rattle.dps_search.specs.Meetings.{IsEnteredBy}
 use Rattle.dps_search.specs.Tasks.{IsEntered}
 use Rattle.dps_search.proofs.Turns.{entered_leads, entered_not}
-use Rattle.dps_terms.proofs.Building.{closed_stays}
 
 -- nothing has to be put for variables where the two are equal
 nothing_bound : (n : ℕ) (t : Tree) → bound [] n ≡ Some t → ⊥
@@ -47,13 +45,6 @@ unified_same levels theta t u e = record {
   becomes = λ i x. sym (substitute_itself (theta x)) i;
   newly = none_newly levels theta;
 }
-
--- closed terms that differ
-pub closed_apart : (theta : ℕ → Tree) (t u : Tree) → IsClosed t → IsClosed u → (t ≡ u → ⊥) → IsNotUnifiable ((substitute theta t, substitute theta u) ∷ [])
-closed_apart theta t u h k d r all =
-    let left = ap (substitute r) (closed_stays theta t h) ∙ closed_stays r t h in
-    let right = ap (substitute r) (closed_stays theta u k) ∙ closed_stays r u k in
-    d (sym left ∙ All-head (λ p. substitute r p.0 ≡ substitute r p.1) (substitute theta t, substitute theta u) [] all ∙ right)
 
 -- an entry for the first target
 module _ (scene : Scene) (b : Branch) (target z : Target) (ts rest : List Target) (i : ℕ) (some : ts ≡ z ∷ rest) (at : target ≡ get_or ts 0 target) where

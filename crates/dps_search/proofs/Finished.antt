@@ -57,13 +57,6 @@ module _ (g : ℕ → Bool) where
   tested_free s kept i n t d there k =
       ap (λ r. bound r n) k ∙ bound_tested (take i s) n ∙ still_none (g n) (bound (take i s) n) (unbound_before s i (n, t) d there)
 
-  one : (b : Bool) (p : ℕ × Tree) (s : List (ℕ × Tree)) → cond b (p ∷ s) s ≡ cond b (p ∷ []) [] ++ s
-  one true p s = refl
-  one false p s = refl
-
-  end : (b : Bool) (p : ℕ × Tree) → cond b (p ∷ []) [] ≡ [] ++ cond b (p ∷ []) []
-  end b p = refl
-
   over : (b : Bool) (q : ℕ × Tree) (s r : List (ℕ × Tree)) → cond b (q ∷ (s ++ r)) (s ++ r) ≡ cond b (q ∷ s) s ++ r
   over true q s r = refl
   over false q s r = refl

@@ -1,15 +1,13 @@
-pub mod Puts
-pub mod Newly
 pub mod Stepping
 pub mod Nodes
 pub mod Above
-pub mod InTurn
-pub mod Setting
 pub mod Rooted
+pub mod Walked
 pub mod Finished
 pub mod Options
 pub mod Turning
 pub mod Turns
+pub mod Passed
 pub mod Agendas
 pub mod Advancing
 pub mod Comparing

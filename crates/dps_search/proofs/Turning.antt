@@ -9,7 +9,7 @@ use Rattle.dps_solver.specs.declared.scene.Target.{Target}
 use Rattle.dps_solver.specs.Search.{GeneralSolution, Branch, Way, use_entry, entry_ways, ways, entry_equation, Leads, Lists, gives, drops, goes_on, ListsBy, no_way, leads, ends}
 use Rattle.dps_solver.proofs.Once.{leads_once, unusable, at_targets, none_is_some}
 use Rattle.dps_search.specs.Ways.{ways_behind}
-use Rattle.dps_search.specs.Tasks.{ListsBehind, AreJoined, IsOneLater}
+use Rattle.dps_search.specs.Tasks.{ListsBehind, AreJoined, IsLater}
 
 nothing : {X : Type 0} (xs : List X) → xs ++ [] ≡ xs
 nothing [] = refl
@@ -60,7 +60,7 @@ module _ (scene : Scene) (ask : Ask) (b : Branch) (z : Target) (rest : List Targ
 
   -- and is the last one
   pub leads_last : (w : Way) (c : Branch) (list : List GeneralSolution) (moves : ℕ) → Leads scene b z rest w c
-      → ListsBy scene ask b z rest (w ∷ []) list moves ↔ IsOneLater (Lists scene ask c) list moves
+      → ListsBy scene ask b z rest (w ∷ []) list moves ↔ IsLater 1 (Lists scene ask c) list moves
   leads_last w c list moves g = (
     λ h. let j = led w [] c list moves g h in
         let e = nothing_after list j.others moves j.after j.lists_second in
@@ -75,12 +75,12 @@ module _ (scene : Scene) (ask : Ask) (b : Branch) (z : Target) (rest : List Targ
 
   -- the first way can't be gone
   not_usable : (i : ℕ) (ws : List Way) (list : List GeneralSolution) (moves : ℕ) → IsNotUnifiable (entry_equation scene b z i)
-      → ListsBy scene ask b z rest (use_entry i ∷ ws) list moves → IsOneLater (ListsBy scene ask b z rest ws) list moves
+      → ListsBy scene ask b z rest (use_entry i ∷ ws) list moves → IsLater 1 (ListsBy scene ask b z rest ws) list moves
   not_usable i ws list moves u (leads {c = c} g h t l n) = absurd (unusable scene b z rest i c g u)
   not_usable i ws list moves u (ends {after = after} v t n) = record { left = after; lists_left = t; moves_are = n }
 
   pub ends_here : (i : ℕ) (ws : List Way) (list : List GeneralSolution) (moves : ℕ) → IsNotUnifiable (entry_equation scene b z i)
-      → ListsBy scene ask b z rest (use_entry i ∷ ws) list moves ↔ IsOneLater (ListsBy scene ask b z rest ws) list moves
+      → ListsBy scene ask b z rest (use_entry i ∷ ws) list moves ↔ IsLater 1 (ListsBy scene ask b z rest ws) list moves
   ends_here i ws list moves u = (not_usable i ws list moves u, λ k. ends u k.lists_left k.moves_are)
 
   -- no way is left

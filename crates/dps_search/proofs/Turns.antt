@@ -18,17 +18,17 @@ use Rattle.dps_search.specs.declared.task.Turn.{Turn}
 use Rattle.dps_search.specs.declared.task.Turn.TheVariants.{Ended, Moved, Branched, Refused}
 use Rattle.dps_search.specs.Code.{branch_of, solution_seen}
 use Rattle.dps_search.specs.Going.{IsFollowed, entered}
-use Rattle.dps_search.specs.Putting.{IsUnifiedBy}
+use Rattle.dps_bindings.specs.Putting.{IsUnifiedBy}
 use Rattle.dps_search.specs.Ways.{ways_behind, IsNextStep}
 use Rattle.dps_search.specs.Finishing.{IsFinished}
-use Rattle.dps_search.specs.Tasks.{ListsBehind, TaskLists, AreJoined, IsOneLater, IsTurn, IsNextOf, IsPassed}
+use Rattle.dps_search.specs.Tasks.{ListsBehind, TaskLists, AreJoined, IsLater, IsTurn, IsNextOf, IsPassed}
 use Rattle.dps_search.proofs.Turning.{begins, leads_on, leads_last, ends_here, over_here, takes_one}
 
 through : {A B C : Type 0} → A ↔ B → B ↔ C → A ↔ C
 through h k = (λ a. k.0 (h.0 a), λ c. h.1 (k.1 c))
 
 later_of : (P Q : List GeneralSolution → ℕ → Type 0) → ((list : List GeneralSolution) (moves : ℕ) → P list moves ↔ Q list moves)
-    → (list : List GeneralSolution) (moves : ℕ) → IsOneLater P list moves ↔ IsOneLater Q list moves
+    → (list : List GeneralSolution) (moves : ℕ) → IsLater 1 P list moves ↔ IsLater 1 Q list moves
 later_of P Q h list moves = (
   λ k. record { left = k.left; lists_left = (h list k.left).0 k.lists_left; moves_are = k.moves_are },
   λ k. record { left = k.left; lists_left = (h list k.left).1 k.lists_left; moves_are = k.moves_are },

@@ -8,8 +8,8 @@ use Rattle.dps_search.specs.declared.scene.Scene.{Scene as CodeScene}
 use Rattle.dps_search.specs.declared.scene.Ask.{Ask as CodeAsk}
 use Rattle.dps_search.specs.declared.scene.Mgs.{Mgs}
 use Rattle.dps_search.specs.declared.branch.Branch.{Branch as CodeBranch}
-use Rattle.dps_search.specs.Putting.{in_turn}
-use Rattle.dps_search.specs.Pieces.{pairs_of}
+use Rattle.dps_bindings.specs.Putting.{in_turn}
+use Rattle.dps_bindings.specs.Pieces.{pairs_of}
 
 abbrev pub system_of : CodeScene → System
 system_of s =

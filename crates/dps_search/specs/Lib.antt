@@ -1,5 +1,3 @@
-pub mod Putting
-pub mod Pieces
 pub mod Code
 pub mod Going
 pub mod Numbers

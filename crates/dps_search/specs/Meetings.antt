@@ -13,7 +13,7 @@ use Rattle.dps_search.specs.declared.meeting.Meeting.{Meeting}
 use Rattle.dps_search.specs.declared.meeting.Meeting.TheVariants.{Same, Never, Open}
 use Rattle.dps_search.specs.Code.{branch_of}
 use Rattle.dps_search.specs.Going.{entered}
-use Rattle.dps_search.specs.Putting.{IsUnifiedBy}
+use Rattle.dps_bindings.specs.Putting.{IsUnifiedBy}
 
 -- terms with these roots are made equal by no substitution
 abbrev pub AreApart : TermView → TermView → Type 0

@@ -8,6 +8,7 @@ use Rattle.dps_solver.specs.declared.scene.Target.{Target}
 use Rattle.dps_search.specs.declared.scene.Mgs.{Mgs}
 use Rattle.dps_search.specs.declared.branch.Branch.{Branch as CodeBranch}
 use Rattle.dps_search.specs.declared.step.Step.{Step}
+use Rattle.dps_search.specs.declared.step.Step.TheVariants.{Use}
 use Rattle.dps_search.specs.declared.task.Task.{Task}
 use Rattle.dps_search.specs.declared.task.Turn.{Turn}
 use Rattle.dps_search.specs.declared.task.Turn.TheVariants.{Ended, Moved, Branched, Refused}
@@ -38,18 +39,23 @@ pub record AreJoined (first second : List GeneralSolution → ℕ → Type 0) (l
   pub list_is : list ≡ here ++ others
   pub moves_are : moves ≡ 1 + before + after
 
--- the same is listed, after one move
-pub record IsOneLater (lists : List GeneralSolution → ℕ → Type 0) (list : List GeneralSolution) (moves : ℕ) : Type 0 where
+-- the same is listed, after so many moves
+pub record IsLater (count : ℕ) (lists : List GeneralSolution → ℕ → Type 0) (list : List GeneralSolution) (moves : ℕ) : Type 0 where
   pub left : ℕ
   pub lists_left : lists list left
-  pub moves_are : moves ≡ 1 + left
+  pub moves_are : moves ≡ count + left
+
+-- the new task lists what is left of the old one after so many moves
+abbrev pub AreLater : Scene → ℕ → Task → Task → Type 0
+AreLater scene count old new =
+    (ask : Ask) (list : List GeneralSolution) (moves : ℕ) → TaskLists scene ask old list moves ↔ IsLater count (TaskLists scene ask new) list moves
 
 -- what the task lists, by what it came to
 abbrev pub IsTurn : Scene → Ask → Bool → Task → Turn → Task → Type 0
 IsTurn scene ask room old (Ended found) new =
     (list : List GeneralSolution) (moves : ℕ) → TaskLists scene ask old list moves ↔ ((list ≡ solutions found) × (moves ≡ 0))
 IsTurn scene ask room old Moved new =
-    (room ≡ true) × ((list : List GeneralSolution) (moves : ℕ) → TaskLists scene ask old list moves ↔ IsOneLater (TaskLists scene ask new) list moves)
+    (room ≡ true) × ((list : List GeneralSolution) (moves : ℕ) → TaskLists scene ask old list moves ↔ IsLater 1 (TaskLists scene ask new) list moves)
 IsTurn scene ask room old (Branched b) new =
     (room ≡ true)
     × ((list : List GeneralSolution) (moves : ℕ)
@@ -61,6 +67,12 @@ IsTurn scene ask room old Refused new =
 abbrev pub IsNextOf : System → Branch → List Target → ℕ → Option Step → Type 0
 IsNextOf system b [] passed step = ⊤
 IsNextOf system b (z ∷ rest) passed step = IsNextStep system z.level (substitute b.theta z.term) passed step
+
+-- the entry is the next way for the first of these targets, and its value and the term can't be made equal
+abbrev pub IsNextApart : Scene → Branch → List Target → ℕ → ℕ → Type 0
+IsNextApart scene b ts passed i =
+    IsNextOf scene.system b ts passed (Some (Use i))
+    × ((z : Target) (rest : List Target) → ts ≡ z ∷ rest → IsNotUnifiable (entry_equation scene b z i))
 
 -- the branch in which the entry is used, or none where its value and the term can't be made equal
 abbrev pub IsEntered : Scene → Branch → Target → List Target → ℕ → Option CodeBranch → Type 0

@@ -1,18 +1,17 @@
 //! A branch of the search, and the steps to the next ones.
 ghost use Rattle.std.specs.Prelude.{◌≡◌, ◌↔◌, ◌+◌, ◌^◌, ◌<◌, length, IfOk, OnOk, IsTrue};
 ghost use Rattle.dps_terms.specs.Bindings.{image};
+ghost use Rattle.dps_terms.specs.Replace.{substitute};
 ghost use Rattle.dps_terms.specs.Views.{arguments};
 ghost use Rattle.dps_terms.specs.Seen.{seen};
 ghost use Rattle.dps_solver.specs.Search.{with_bound, with_one_bound, lowered, composed};
 ghost use Rattle.dps_solver.specs.Levels.{IsVariableUpTo};
 ghost use Rattle.dps_search.specs.Code.{branch_of};
-ghost use Rattle.dps_search.specs.Pieces.{piece_tree};
+ghost use Rattle.dps_bindings.specs.Pieces.{piece_tree};
 ghost use Rattle.dps_search.specs.Going.{with_one_tree, IsFollowed, targets_from};
 
-use crate::bindings::{Bindings, put};
-use crate::piece::{Given, Piece};
-use crate::pieces::root_over;
-use crate::unified::level;
+use crate::closed::is_closed;
+use dps_bindings::{Bindings, Given, Piece, level, put, root_over};
 use dps_solver::Target;
 use dps_terms::{NoMemory, Term, TermLeaf, TermRef, TermView};
 use dps_unify::VarOrder;
@@ -83,8 +82,24 @@ fn lower(alloc: Global, branch: &mut Branch, target: &Target, variable: u64) -> 
     give(branch, variable, Piece::Leaf(TermLeaf::Var(target.name)))
 }
 
+/// The root of the target's term is composed of trees that are sought first from now on. The target is not among those that
+/// are left. A term in which nothing can be put is not copied.
+pub(crate) fn compose_root(
+    alloc: Global,
+    branch: &mut Branch,
+    target: &Target,
+) -> Result<(), NoMemory>
+    ensures { OnOk result (branch_of branch.new ≡ composed (branch_of branch.old) target.now branch.old.targets.items (substitute (image branch.old.theta) target.now.term)) }
+{
+    if is_closed(target.term.whole()) {
+        return compose(alloc, branch, target, target.term.whole());
+    }
+    let term = target.term.whole().replaced(alloc, &branch.theta)?;
+    compose(alloc, branch, target, term.whole())
+}
+
 /// The root of the term is composed of trees that are sought first from now on.
-pub(crate) fn compose(
+fn compose(
     alloc: Global,
     branch: &mut Branch,
     target: &Target,

@@ -1,5 +1,5 @@
 //! The next branch where an entry is the tree of the first target.
-ghost use Rattle.std.specs.Prelude.{◌≡◌, ◌<◌, ◌∷◌, List, length, drop, IfOk};
+ghost use Rattle.std.specs.Prelude.{◌≡◌, ◌<◌, ◌∷◌, [], List, length, drop, IfOk};
 ghost use Rattle.dps_terms.specs.Tree.{entry as entry_leaf, leaf};
 ghost use Rattle.dps_terms.specs.Bindings.{image};
 ghost use Rattle.dps_terms.specs.Replace.{substitute, numbered};
@@ -10,17 +10,16 @@ ghost use Rattle.dps_search.specs.Going.{entered};
 ghost use Rattle.dps_search.specs.Tasks.{IsEntered};
 ghost use Rattle.dps_search.specs.Meetings.{IsEnteredBy};
 
-use crate::bindings::Bindings;
 use crate::branch::{Branch, add_bound};
+use crate::closed::instance;
 use crate::meeting::{Meeting, compare_entry, value_at};
-use crate::piece::{Given, Piece};
-use crate::pieces::with_given;
 use crate::scene::Scene;
-use crate::unified::{Unified, unify};
+use dps_bindings::{Bindings, Given, Piece, Unified, unify, with_given};
 use dps_solver::Target;
 use dps_terms::{NoMemory, Term, TermLeaf};
 use dps_unify::VarOrder;
 use std::alloc::Global;
+use std::slice;
 
 /// The branch in which the entry is the tree of the first target. `None` comes exactly where the entry's value and the target's
 /// term can't be made equal.
@@ -67,8 +66,8 @@ fn enter_unified(
 ) -> Result<Option<Branch>, NoMemory>
     ensures { IfOk result (λ o. IsEnteredBy (scene_of scene.now) (branch_of branch.now) target.now (drop 1 branch.now.targets.items) entry o) }
 {
-    let pairs = entry_pair(alloc, scene, branch, target, entry)?;
-    match unify(alloc, &branch.order, &branch.theta, &pairs)? {
+    let pair = entry_pair(alloc, scene, branch, target, entry)?;
+    match unify(alloc, &branch.order, &branch.theta, slice::from_ref(&pair))? {
         Some(unified) => {
             let next = with_entry(alloc, branch, target, entry, unified)?;
             Ok(Some(next))
@@ -84,14 +83,12 @@ fn entry_pair(
     branch: &Branch,
     target: &Target,
     entry: u64,
-) -> Result<Vec<(Term, Term)>, NoMemory>
-    ensures { IfOk result (λ v. v.items ≡ entry_equation (scene_of scene.now) (branch_of branch.now) target.now entry) }
+) -> Result<(Term, Term), NoMemory>
+    ensures { IfOk result (λ p. p ∷ [] ≡ entry_equation (scene_of scene.now) (branch_of branch.now) target.now entry) }
 {
     let value = entry_value(alloc, &scene.values, &branch.theta, entry)?;
-    let term = target.term.whole().replaced(alloc, &branch.theta)?;
-    let mut pairs = Vec::with_capacity(alloc, 1)?;
-    pairs.push((value, term))?;
-    Ok(pairs)
+    let term = instance(alloc, &branch.theta, target.term.whole())?;
+    Ok((value, term))
 }
 
 /// The value of the entry with this number, with what is put for variables.
@@ -104,7 +101,7 @@ fn entry_value(
     ensures { IfOk result (λ t. t ≡ substitute (image theta.now) (numbered values.now entry (leaf (entry_leaf entry)))) }
 {
     match value_at(values, entry) {
-        Some(value) => value.whole().replaced(alloc, theta),
+        Some(value) => instance(alloc, theta, value.whole()),
         None => Term::entry(alloc, entry),
     }
 }

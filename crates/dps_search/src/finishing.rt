@@ -10,11 +10,9 @@ ghost use Rattle.dps_solver.specs.Solutions.{Respects};
 ghost use Rattle.dps_search.specs.Code.{scene_of, system_of, ask_of, branch_of};
 ghost use Rattle.dps_search.specs.Finishing.{IsFinished};
 
-use crate::bindings::{Bindings, substitution};
 use crate::branch::{Branch, bound_term};
-use crate::pieces::put_in_turn;
 use crate::scene::{Ask, Mgs, Scene};
-use crate::unified::level;
+use dps_bindings::{Bindings, level, put_in_turn, substitution};
 use dps_know::is_normal;
 use dps_solver::{Target, excluded};
 use dps_terms::{NoMemory, Subst, Term};

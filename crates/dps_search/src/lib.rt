@@ -4,19 +4,17 @@
 //! budget. A branch of the search is a `Branch`, and what is still to be listed stands on an agenda.
 #![tactic(auto)]
 
-mod bindings;
 mod branch;
+mod closed;
 mod entering;
 mod finishing;
 mod meeting;
 mod numbers;
-mod piece;
-mod pieces;
+mod passing;
 mod scene;
 mod search;
 mod step;
 mod task;
-mod unified;
 
 pub use scene::{Ask, Mgs, Scene, Steps, Stop};
 pub use search::solve;

@@ -1,18 +1,17 @@
 //! Whether two terms may become equal, as far as it shows without a unifier.
-ghost use Rattle.std.specs.Prelude.{◌≡◌, ℕ, [], ◌↔◌, false, unwrap_or, IsTrue};
+ghost use Rattle.std.specs.Prelude.{◌≡◌, ℕ, [], ◌∷◌, ◌↔◌, false, unwrap_or, IsTrue};
 ghost use Rattle.std.specs.Option.{option_copied};
 ghost use Rattle.dps_terms.specs.Tree.{Tree};
 ghost use Rattle.dps_terms.specs.Bindings.{image};
-ghost use Rattle.dps_terms.specs.Kinds.{IsClosed};
-ghost use Rattle.dps_terms.specs.Replace.{numbered};
+ghost use Rattle.dps_terms.specs.Replace.{numbered, substitute};
+ghost use Rattle.dps_unify.specs.Unifier.{IsNotUnifiable};
 ghost use Rattle.dps_terms.specs.Seen.{seen};
 ghost use Rattle.dps_search.specs.Code.{scene_of, branch_of};
-ghost use Rattle.dps_search.specs.Numbers.{root_numbers};
 ghost use Rattle.dps_search.specs.Meetings.{AreApart, IsMeeting, IsMeetingOf};
 
-use crate::bindings::Bindings;
 use crate::branch::Branch;
 use crate::scene::Scene;
+use dps_bindings::Bindings;
 use dps_solver::Target;
 use dps_terms::{Term, TermRef, TermView};
 
@@ -51,23 +50,43 @@ pub(crate) fn value_at(values: &[Term], number: u64) -> Option<&Term>
 fn compare(theta: &Bindings, value: TermRef<'_>, term: TermRef<'_>) -> Meeting
     ensures { IsMeeting (image theta.now) (seen value.entry) (seen term.entry) result }
 {
-    if may_be_equal(theta.at_root(value).view(), theta.at_root(term).view()) {
-        return compare_whole(value, term);
-    }
-    Meeting::Never
-}
-
-/// What shows of the two terms, whatever is put for variables. Terms without variables need no unifier.
-fn compare_whole(value: TermRef<'_>, term: TermRef<'_>) -> Meeting
-    ensures { (theta : ℕ → Tree) → IsMeeting theta (seen value.entry) (seen term.entry) result }
-{
     if value.equals(term) {
         return Meeting::Same;
     }
-    if are_closed(value, term) {
+    if are_apart(theta, value, term) {
         return Meeting::Never;
     }
     Meeting::Open
+}
+
+/// Whether the first nodes at which the two terms differ show that nothing makes them equal, with what is put for variables.
+pub(crate) fn are_apart(theta: &Bindings, value: TermRef<'_>, term: TermRef<'_>) -> bool
+    ensures { IsTrue result → IsNotUnifiable ((substitute (image theta.now) (seen value.entry), substitute (image theta.now) (seen term.entry)) ∷ []) }
+{
+    let count = value.node_count().min(term.node_count());
+    let mut node = 0;
+    while node < count {
+        let left = value.subterm(node);
+        let right = term.subterm(node);
+        if have_other_roots(theta, left, right) {
+            return true;
+        }
+        if !left.has_root_of(right) {
+            return false;
+        }
+        node += 1;
+    }
+    false
+}
+
+/// Whether the roots of the two terms, with what is put for variables, show that nothing makes them equal.
+fn have_other_roots(theta: &Bindings, value: TermRef<'_>, term: TermRef<'_>) -> bool
+    ensures { IsTrue result → IsNotUnifiable ((substitute (image theta.now) (seen value.entry), substitute (image theta.now) (seen term.entry)) ∷ []) }
+{
+    if may_be_equal(theta.at_root(value).view(), theta.at_root(term).view()) {
+        return false;
+    }
+    true
 }
 
 /// Whether terms with these roots may become equal when terms are put for variables.
@@ -85,38 +104,4 @@ fn are_same(first: TermView, second: TermView) -> bool
     ensures { IsTrue result ↔ (first ≡ second) }
 {
     first == second
-}
-
-/// Whether no variable stands in either.
-fn are_closed(first: TermRef<'_>, second: TermRef<'_>) -> bool
-    ensures { IsTrue result → IsClosed (seen first.entry) × IsClosed (seen second.entry) }
-{
-    if is_closed(first) {
-        return is_closed(second);
-    }
-    false
-}
-
-/// Whether no variable stands in the term.
-fn is_closed(term: TermRef<'_>) -> bool
-    ensures { IsTrue result → IsClosed (seen term.entry) }
-{
-    let mut left = term.node_count();
-    while left > 0 {
-        left -= 1;
-        if is_variable(term.subterm(left)) {
-            return false;
-        }
-    }
-    true
-}
-
-/// Whether the term is a variable.
-fn is_variable(term: TermRef<'_>) -> bool
-    ensures { result ≡ false → root_numbers (seen term.entry) ≡ [] }
-{
-    match term.view() {
-        TermView::Var(_) => true,
-        _ => false,
-    }
 }

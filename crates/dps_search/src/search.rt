@@ -5,14 +5,13 @@ ghost use Rattle.dps_solver.specs.Search.{IsFoundWithin, IsSpentWithin, unbound,
 ghost use Rattle.dps_search.specs.Code.{scene_of, ask_of, branch_of, solution_seen};
 ghost use Rattle.dps_search.specs.Agenda.{IsStart, IsBegin, IsAdvance, TakesMove, left_of};
 
-use crate::bindings::Bindings;
 use crate::branch::{Branch, add_bound};
 use crate::entering::copies;
 use crate::numbers::first_new;
-use crate::pieces::nothing_given;
+use crate::passing::pass_apart;
 use crate::scene::{Ask, Mgs, Scene, Steps, Stop};
 use crate::task::{Task, Turn, take_turn};
-use crate::unified::{Unified, unify};
+use dps_bindings::{Bindings, Unified, nothing_given, unify};
 use dps_terms::NoMemory;
 use dps_unify::VarOrder;
 use std::alloc::Global;
@@ -38,7 +37,8 @@ pub fn solve(alloc: Global, scene: &Scene, ask: &Ask, steps: &mut Steps) -> Resu
     ensures budget { steps.new.budget ≡ steps.old.budget }
 {
     let mut search = begin(alloc, scene, ask)?;
-    while let Some(task) = search.agenda.pop() {
+    while let Some(mut task) = search.agenda.pop() {
+        steps.used += pass_apart(scene, &mut task, steps.budget - steps.used);
         advance(alloc, scene, ask, &mut search, task, steps)?;
     }
     Ok(search.found)

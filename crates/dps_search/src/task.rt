@@ -9,7 +9,7 @@ ghost use Rattle.dps_search.specs.Code.{scene_of, system_of, ask_of, branch_of};
 ghost use Rattle.dps_search.specs.Going.{IsFollowed};
 ghost use Rattle.dps_search.specs.Tasks.{IsTurn, IsNextOf, IsPassed};
 
-use crate::branch::{Branch, compose, follow};
+use crate::branch::{Branch, compose_root, follow};
 use crate::entering::enter;
 use crate::finishing::finish;
 use crate::scene::{Ask, Mgs, Scene};
@@ -65,7 +65,7 @@ pub(crate) fn take_turn(
 }
 
 /// The next way.
-fn step_of(scene: &Scene, task: &Task) -> Option<Step>
+pub(crate) fn step_of(scene: &Scene, task: &Task) -> Option<Step>
     requires { 0 < length task.now.branch.targets.items }
     ensures { IsNextOf (system_of scene.now) (branch_of task.now.branch) task.now.branch.targets.items task.now.passed result }
 {
@@ -109,8 +109,7 @@ fn compose_term(alloc: Global, task: &mut Task) -> Result<Turn, NoMemory>
     ensures none { OnOk result (task.new.passed ≡ 0) }
 {
     let target = task.branch.targets.remove(0);
-    let term = target.term.whole().replaced(alloc, &task.branch.theta)?;
-    compose(alloc, &mut task.branch, &target, term.whole())?;
+    compose_root(alloc, &mut task.branch, &target)?;
     task.passed = 0;
     Ok(Turn::Moved)
 }

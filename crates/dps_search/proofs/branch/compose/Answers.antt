@@ -3,7 +3,7 @@ use Rattle.std.proofs.lemmas.Result.{on_ok_weaker}
 use Rattle.dps_terms.specs.Seen.{seen}
 use Rattle.dps_solver.specs.Search.{then_put}
 use Rattle.dps_search.specs.Code.{branch_of}
-use Rattle.dps_search.specs.Pieces.{piece_tree}
+use Rattle.dps_bindings.specs.Pieces.{piece_tree}
 use Rattle.dps_search.proofs.Stepping.{is_composed}
 use Rattle.dps_search.proofs.branch.compose.Goals as goal
 

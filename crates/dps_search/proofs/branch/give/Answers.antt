@@ -1,7 +1,7 @@
 use Rattle.std.proofs.Common.{ℕ, ap}
 use Rattle.dps_terms.specs.Tree.{Tree}
 use Rattle.dps_search.specs.Code.{branch_of}
-use Rattle.dps_search.proofs.InTurn.{given_more}
+use Rattle.dps_bindings.proofs.InTurn.{given_more}
 use Rattle.dps_search.proofs.branch.give.Goals as goal
 
 pub returns : goal.returns

@@ -3,9 +3,9 @@ use Rattle.dps_terms.specs.Tree.{entry, leaf}
 use Rattle.dps_terms.specs.Bindings.{image}
 use Rattle.dps_solver.specs.Search.{then_put}
 use Rattle.dps_solver.specs.declared.scene.Target.{Target}
-use Rattle.dps_search.specs.declared.piece.Given.{Given}
-use Rattle.dps_search.specs.Pieces.{pairs_of}
-use Rattle.dps_search.specs.Putting.{in_turn}
+use Rattle.dps_bindings.specs.declared.piece.Given.{Given}
+use Rattle.dps_bindings.specs.Pieces.{pairs_of}
+use Rattle.dps_bindings.specs.Putting.{in_turn}
 use Rattle.dps_search.proofs.entering.enter_with.Goals as goal
 
 pub returns : goal.returns

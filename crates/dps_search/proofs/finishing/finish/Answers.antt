@@ -5,10 +5,10 @@ use Rattle.dps_terms.specs.Bindings.{image}
 use Rattle.dps_unify.specs.Order.{level_of}
 use Rattle.dps_solver.specs.Solutions.{Respects}
 use Rattle.dps_solver.specs.declared.scene.Target.{Target}
-use Rattle.dps_search.specs.declared.piece.Given.{Given}
+use Rattle.dps_bindings.specs.declared.piece.Given.{Given}
 use Rattle.dps_search.specs.Code.{system_of}
-use Rattle.dps_search.specs.Pieces.{pairs_of}
-use Rattle.dps_search.specs.Putting.{in_turn}
+use Rattle.dps_bindings.specs.Pieces.{pairs_of}
+use Rattle.dps_bindings.specs.Putting.{in_turn}
 use Rattle.dps_search.proofs.finishing.finish.Goals as goal
 
 abbrev leveled : List (ℕ × ℕ) → (ℕ → Tree) → ℕ → Tree

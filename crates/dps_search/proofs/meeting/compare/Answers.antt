@@ -1,13 +1,7 @@
-use Rattle.std.proofs.Common.{sym, ◌∙◌}
-use Rattle.dps_terms.specs.Bindings.{image}
-use Rattle.dps_terms.specs.Replace.{substitute}
-use Rattle.dps_terms.specs.Seen.{seen}
 use Rattle.dps_search.proofs.meeting.compare.Goals as goal
 
-pub returns-then-may_be_equal : goal.returns-then-may_be_equal
-returns-then-may_be_equal c = c.compare_whole.ensures (image c.args.theta.now)
+pub returns-then-equals : goal.returns-then-equals
+returns-then-equals c = c.equals.ensures.0 c.if-equals.true
 
-pub returns : goal.returns
-returns c =
-    c.may_be_equal.ensures c.if-may_be_equal.false (substitute (image c.args.theta.now) (seen c.args.value)) (substitute (image c.args.theta.now) (seen c.args.term))
-    (sym (c.view.ensures ∙ c.at_root.ensures)) (sym (c.view-2.ensures ∙ c.at_root-2.ensures))
+pub returns-then-are_apart : goal.returns-then-are_apart
+returns-then-are_apart c = c.are_apart.ensures c.if-are_apart.true

@@ -2,9 +2,9 @@ use Rattle.std.proofs.Common.{◌∙◌, Option, subst}
 use Rattle.std.specs.Prelude.{MatchOption}
 use Rattle.dps_terms.specs.Bindings.{image}
 use Rattle.dps_unify.specs.Unifier.{IsNotUnifiable}
-use Rattle.dps_search.specs.declared.unified.Unified.{Unified}
+use Rattle.dps_bindings.specs.declared.unified.Unified.{Unified}
 use Rattle.dps_search.specs.Code.{branch_of, scene_of, ask_of}
-use Rattle.dps_search.specs.Putting.{IsUnifiedBy}
+use Rattle.dps_bindings.specs.Putting.{IsUnifiedBy}
 use Rattle.dps_search.proofs.Advancing.{start_with, not_started}
 use Rattle.dps_search.proofs.search.first_branch.Goals as goal
 

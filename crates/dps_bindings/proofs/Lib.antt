@@ -1,0 +1,5 @@
+pub mod Puts
+pub mod Newly
+pub mod Roots
+pub mod Setting
+pub mod InTurn

@@ -1,7 +1,0 @@
-use Rattle.std.proofs.Common.{◌≡◌, map, take}
-use Rattle.dps_terms.specs.Bindings.{image}
-use Rattle.dps_search.specs.Putting.{under}
-use Rattle.dps_search.proofs.bindings.instances.Given as goal
-
-abbrev pub invariant-loop-index : goal.invariant-loop-index
-invariant-loop-index l = l.after ≡ map (under (image l.by)) (take l.index l.before)

@@ -1,4 +1,0 @@
-use Rattle.dps_search.proofs.pieces.put_before.Goals as goal
-
-pub returns : goal.returns
-returns c = rw c.in_ok-tree.ensures at c.set.ensures
