@@ -1,5 +1,5 @@
 //! Outcomes of texts.
-ghost use Rattle.std.specs.Prelude.{◌≡◌, ◌++◌, ◌∷◌, ℕ, List, All, IfOk, IfSome, IfNone, IsSomeAnd, IsTrue, ◌↔◌, Some, codes};
+ghost use Rattle.std.specs.Prelude.{◌≡◌, ◌++◌, ◌∷◌, ℕ, List, Option, All, IfOk, IfSome, IfNone, IsSomeAnd, IsTrue, ◌↔◌, Some, codes};
 ghost use Rattle.dps_branch.specs.declared.Side.{Side};
 ghost use Rattle.dps_trace.specs.declared.model.ModelName.{ModelName};
 ghost use Rattle.dps_trace.specs.Text.{line};
@@ -7,12 +7,13 @@ ghost use Rattle.dps_report.specs.declared.outcome.Outcome.{Outcome};
 ghost use Rattle.dps_report.specs.declared.results.ResultName.{ResultName};
 ghost use Rattle.dps_report.specs.declared.results.ResultName.TheVariants as results;
 ghost use Rattle.dps_report.specs.declared.format.Format.{Format};
-ghost use Rattle.dps_report.specs.Outcomes.{Names, HasPath, IsTest, IsTestText, IsWord, EndsLine, HasTraceLines};
+ghost use Rattle.dps_report.specs.declared.format.Format.TheVariants.{Second};
+ghost use Rattle.dps_report.specs.Outcomes.{IsFitting, Names, HasPath, IsTest, IsTestText, IsWord, EndsLine, HasTraceLines};
 ghost use Rattle.dps_report.specs.Reports.{IsReport, first_line, if_named, result_text};
 ghost use Rattle.dps_report.specs.Finding.{FindsResult, FindsOutcome, FindsTests, FindsListedTests};
 
 use crate::fields::{read_field, read_number, read_place, read_short, read_text};
-use crate::printing::text_in;
+use crate::printing::{text, text_in};
 use crate::results::{ResultName, result_named};
 use crate::{Format, Outcome, StopName, Text, Texts};
 use dps_path::read_path;
@@ -33,12 +34,27 @@ pub fn read_report(alloc: Global, bytes: &[u8]) -> Result<Option<Outcome>, Alloc
     let Some(outcome) = outcome_like(alloc, format, rest)? else {
         return Ok(None);
     };
-    let text = text_in(alloc, format, &outcome)?;
-    if text.bytes() == bytes {
+    let printed = text_in(alloc, format, &outcome)?;
+    if printed.bytes() == bytes {
         Ok(Some(outcome))
     } else {
         Ok(None)
     }
+}
+
+/// The outcome that is read of an outcome's text in format 2: the same.
+///
+/// Conditions: it names its model where it has one, its numbers are below the bounds of texts, and its parts are texts of
+/// their kinds. It fails for want of memory alone.
+#[tactic(auto, using(crate::proofs::ReportRead::printed_again))]
+pub fn read_again(alloc: Global, outcome: &Outcome) -> Result<Option<Outcome>, AllocError>
+    requires fitting { IsFitting Second outcome.now }
+    requires path { HasPath outcome.now }
+    ensures { IfOk result (λ found. found ≡ Some outcome.now) }
+{
+    let printed = text(alloc, outcome)?;
+    let found = read_report(alloc, printed.bytes())?;
+    Ok(found)
 }
 
 /// The format of the first line, and what comes behind.
@@ -154,7 +170,8 @@ fn accepted_like(format: Format, bytes: &[u8]) -> Option<Outcome>
 fn no_memory_like(format: Format, bytes: &[u8]) -> Option<Outcome>
     ensures { FindsResult format results.NoMemory bytes.now result }
 {
-    let _behind = (format, bytes);
+    let _format = format;
+    let _bytes = bytes;
     Some(Outcome::NoMemory)
 }
 
@@ -253,7 +270,7 @@ fn is_of_format(format: Format, model: Option<ModelName>) -> bool
 }
 
 /// Whether the last byte is a newline.
-#[tactic(auto, using(crate::proofs::LongRead::for_ends_line))]
+#[tactic(auto, using(crate::proofs::LastByte::for_ends_line))]
 fn ends_line(text: &[u8]) -> bool
     ensures { IsTrue result ↔ EndsLine text.now }
 {
@@ -263,7 +280,7 @@ fn ends_line(text: &[u8]) -> bool
     }
 }
 
-#[tactic(auto, using(crate::proofs::LongRead::for_refused_like))]
+#[tactic(auto, using(crate::proofs::RefusedRead::for_refused_like))]
 fn refused_like(alloc: Global, format: Format, bytes: &[u8]) -> Result<Option<Outcome>, AllocError>
     ensures { IfOk result (FindsResult format results.Refused bytes.now) }
 {
@@ -288,7 +305,7 @@ fn refused_like(alloc: Global, format: Format, bytes: &[u8]) -> Result<Option<Ou
     }
 }
 
-#[tactic(auto, using(crate::proofs::LongRead::for_attack_like))]
+#[tactic(auto, using(crate::proofs::TestsRead::for_attack_like))]
 fn attack_like(alloc: Global, format: Format, bytes: &[u8]) -> Result<Option<Outcome>, AllocError>
     ensures { IfOk result (FindsResult format results.Attack bytes.now) }
 {
@@ -312,7 +329,10 @@ fn tests_like(alloc: Global, format: Format, bytes: &[u8]) -> Result<Option<Text
     match format {
         Format::First => Ok(Some(Texts::new(alloc))),
         Format::Second => match read_number(bytes, b"tests: ") {
-            Some((_, rest)) => read_tests(alloc, rest),
+            Some((_, rest)) => {
+                let tests = read_tests(alloc, rest)?;
+                Ok(tests)
+            }
             None => Ok(None),
         },
     }
@@ -342,15 +362,16 @@ fn read_test(alloc: Global, bytes: &[u8]) -> Result<Option<Text>, AllocError>
     ensures found { IfOk result (λ found. IfSome found (λ text. (text ≡ bytes.now) × IsTestText bytes.now)) }
     ensures only { IsTestText bytes.now → IfOk result (λ found. found ≡ Some bytes.now) }
 {
-    if is_test(bytes) {
-        read_text(alloc, bytes)
-    } else {
-        Ok(None)
+    if !is_test(bytes) {
+        return Ok(None);
+    }
+    match read_text(alloc, bytes)? {
+        Some(text) => Ok(Some(text)),
+        None => Ok(None),
     }
 }
 
 /// `value R` or `equal R S`.
-#[tactic(auto, using(crate::proofs::TestsRead::for_is_test))]
 fn is_test(test: &[u8]) -> bool
     ensures { IsTrue result ↔ IsTest test.now }
 {
@@ -371,5 +392,11 @@ fn is_test(test: &[u8]) -> bool
 fn is_word(text: &[u8]) -> bool
     ensures { IsTrue result ↔ IsWord text.now }
 {
-    !text.is_empty() && cut(b' ', text).is_none() && cut(b'\n', text).is_none()
+    if text.is_empty() {
+        return false;
+    }
+    if cut(b' ', text).is_some() {
+        return false;
+    }
+    cut(b'\n', text).is_none()
 }
