@@ -1,5 +1,5 @@
 -- Bytes that begin with a front, or do not.
-use Rattle.std.proofs.Common.{◌≡◌, ◌≢◌, ℕ, suc, ◌+◌, ◌<◌, true, false, List, [], ◌∷◌, ◌++◌, length, take, drop, get_or, codes, refl, ap, sym, subst, ◌∙◌, arith}
+use Rattle.std.proofs.Common.{◌≡◌, ◌≢◌, ℕ, suc, ◌+◌, ◌<◌, true, false, List, [], ◌∷◌, ◌++◌, Option, Some, None, length, take, drop, get_or, codes, refl, ap, sym, subst, ◌∙◌, arith}
 use Rattle.std.specs.Str.{bytes_eq}
 use Rattle.std.proofs.lemmas.Slice.Eq.{bytes_eq-Decides}
 use Rattle.std.proofs.lemmas.List.{take-append-drop, drop_more, length-take-le, get_or-take}
@@ -12,7 +12,7 @@ use Rattle.dps_signature.specs.Signature.{Signature}
 use Rattle.dps_trace.specs.declared.model.ModelName.{ModelName}
 use Rattle.dps_trace.specs.declared.model.ModelName.TheVariants.{Private, Classic, Eavesdrop}
 use Rattle.dps_trace.specs.Cut.{IsWithout, IsCut}
-use Rattle.dps_trace.specs.Text.{model_line, side_line}
+use Rattle.dps_trace.specs.Text.{line, model_line, side_line, heading}
 use Rattle.dps_trace.specs.Faults.{BeginsWith, HasHeaderFault, HasModelFault}
 
 pub front_found : (bytes front rest : List ℕ) → bytes_eq (take (length front) bytes) front ≡ true → rest ≡ drop (length front) bytes → bytes ≡ front ++ rest
@@ -52,7 +52,22 @@ pub no_model_line :
     → HasModelFault S bytes 2
 no_model_line S bytes rest e f = record { second = refl; rest = rest; header = e; no_model = f }
 
-pub ruleset for_read_heading = (no_header, no_model_line)
+pub no_heading :
+    (bytes : List ℕ) → ((rest : List ℕ) → bytes ≢ codes "trace 1\n" ++ rest) → ((rest : List ℕ) → bytes ≢ codes "trace 2\n" ++ rest)
+    → (model : Option ModelName) (rest : List ℕ) → bytes ≢ heading model rest
+no_heading bytes f g None rest e = f rest e
+no_heading bytes f g (Some model) rest e = g (line (model_line model) rest) e
+
+two_is_one : ◌≡◌ {A = ℕ} 50 49 → ⊥
+two_is_one e = omega (arith, e)
+
+pub no_model_behind :
+    (bytes behind : List ℕ) → bytes ≡ codes "trace 2\n" ++ behind → ((model : ModelName) → ¬ BeginsWith (model_line model) behind)
+    → (model : Option ModelName) (rest : List ℕ) → bytes ≢ heading model rest
+no_model_behind bytes behind e f None rest h = two_is_one (ap (λ xs. get_or xs 6 0) (sym e ∙ h))
+no_model_behind bytes behind e f (Some model) rest h = f model (rest, ap (drop 8) (sym e ∙ h))
+
+pub ruleset for_read_heading = (no_header, no_model_line, no_heading, no_model_behind)
 
 without_by_index : (x : ℕ) (bytes : List ℕ) → ((k : ℕ) → k < length bytes → get_or bytes k 0 ≢ x) → IsWithout x bytes
 without_by_index x [] h = tt

@@ -1,6 +1,6 @@
 -- Reading the lines of labels, and a whole trace.
-use Rattle.std.proofs.Common.{◌≡◌, ◌≢◌, ◌⊎◌, inl, inr, ℕ, ◌+◌, ◌-◌, ◌<◌, ◌≤◌, ◌^◌, true, false, List, [], ◌∷◌, ◌++◌, Option, Some, None, Ok, Err, Result, refl, ap, sym, subst, ◌∙◌, length, map, arith, length-append}
-use Rattle.std.specs.Prelude.{◌==◌}
+use Rattle.std.proofs.Common.{◌≡◌, ◌≢◌, ◌⊎◌, inl, inr, ℕ, ◌+◌, ◌-◌, ◌<◌, ◌≤◌, ◌^◌, Bool, true, false, List, [], ◌∷◌, ◌++◌, Option, Some, None, Ok, Err, Result, refl, ap, sym, subst, ◌∙◌, length, map, arith, length-append}
+use Rattle.std.specs.Prelude.{◌==◌, if◌then◌else◌}
 use Rattle.std.proofs.lemmas.Bool.{eqb-true, eq-eqb}
 use Rattle.std.proofs.lemmas.Option.{none-some}
 use Rattle.dps_signature.specs.Signature.{Signature}
@@ -90,6 +90,14 @@ one_more_output m (overhears c j) = omega arith
 newlines-append : (xs ys : List ℕ) → newlines (xs ++ ys) ≡ newlines xs + newlines ys
 newlines-append [] ys = omega arith
 newlines-append (x ∷ xs) ys = omega (arith, newlines-append xs ys)
+
+pub newlines_few : (bytes : List ℕ) → newlines bytes ≤ length bytes
+newlines_few [] = omega arith
+newlines_few (b ∷ bytes) = omega (arith, newlines_few bytes, at_most_one (b == 10))
+  where
+    at_most_one : (test : Bool) → (if test then 1 else 0) ≤ 1
+    at_most_one true = omega arith
+    at_most_one false = omega arith
 
 a_newline : (text rest : List ℕ) → newlines rest + 1 ≤ newlines (line text rest)
 a_newline text rest = omega (arith, newlines-append text (10 ∷ rest))

@@ -1,4 +1,6 @@
-//! What a reader expects of the texts of traces over a signature. Each call does nothing.
+//! What a reader expects of the texts of traces over a signature, and of newlines. Each call does nothing.
+ghost use Rattle.std.specs.Prelude.{◌≤◌, length};
+ghost use Rattle.dps_trace.specs.Cut.{newlines};
 ghost use Rattle.dps_trace.specs.LawsOfTexts.{NoTextIsTwoTraces, NoTraceHasFault, EachTraceHasText};
 
 use dps_signature::Signature;
@@ -22,4 +24,12 @@ pub fn each_trace_has_text(signature: &Signature)
     ensures { EachTraceHasText signature.now }
 {
     signature.spelled();
+}
+
+/// Newlines are no more than bytes.
+#[tactic(auto, using(crate::proofs::LinesRead::newlines_few))]
+pub fn newlines_are_few(bytes: &[u8])
+    ensures { newlines bytes.now ≤ length bytes.now }
+{
+    let _bytes = bytes;
 }

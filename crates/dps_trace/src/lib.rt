@@ -12,6 +12,8 @@ mod model;
 mod printing;
 mod reading;
 mod recipe;
+#[cfg(test)]
+mod tests;
 mod trace;
 mod turn;
 mod words;

@@ -1,5 +1,5 @@
 //! Lines of texts.
-ghost use Rattle.std.specs.Prelude.{◌≡◌, ◌≢◌, ◌++◌, ℕ, List, IfSome, IfNone, IfOk, IfErr};
+ghost use Rattle.std.specs.Prelude.{◌≡◌, ◌≢◌, ◌++◌, ℕ, List, Option, IfSome, IfNone, IfOk, IfErr};
 ghost use Rattle.dps_signature.specs.Signature.{Signature};
 ghost use Rattle.dps_trace.specs.declared.model.ModelName.{ModelName};
 ghost use Rattle.dps_branch.specs.declared.Side.{Side};
@@ -84,6 +84,7 @@ pub fn read_heading(bytes: &[u8]) -> Result<Heading<'_>, (u32, TraceKind)>
     ensures found { IfOk result (λ h. bytes.now ≡ heading h.model h.rest.now) }
     ensures lines { IfOk result (λ h. h.lines ≡ heading_lines h.model) }
     ensures fault { IfErr result (λ fault. (signature : Signature) → HasTraceFault signature bytes.now fault.0 fault.1) }
+    ensures none { IfErr result (λ fault. (model : Option ModelName) (rest : List ℕ) → bytes.now ≢ heading model rest) }
 {
     if let Some(rest) = behind(bytes, b"trace 1\n") {
         return Ok(Heading {

@@ -1,0 +1,5 @@
+pub mod Outcomes
+pub mod Reports
+pub mod Named
+pub mod Stored
+pub mod Finding
