@@ -37,6 +37,8 @@ class File:
         self.crate, self.module = parts[0], ".".join(parts)
         self.text = path.read_text()
         self.imports = imports_of(self.text)
+        # what the headers of modules cite: their parameters are no part of a block
+        self.header_words = set()
         self.blocks = list(blocks_of(self))
 
 
@@ -77,6 +79,7 @@ def blocks_of(file):
                 if block:
                     yield block
                 block, allowed = None, {i for i in allowed if i <= indent} | {indent + 2}
+            file.header_words.update(WORD.findall(bare))
             in_header = bare.startswith(("module", "pub module")) and not bare.endswith("where") or in_header and not bare.endswith("where")
             comment = []
             continue

@@ -31,6 +31,7 @@ kid_is_sound problem node c ask solution kid sound found binds applies low =
       facts = meaning.facts;
       recipes = meaning.recipes;
       closed = meaning.closed;
+      done = λ e. applies.examine ∙ sound.done (sym applies.closed ∙ e);
     }
 
 pub first_is_sound : (problem : Problem) (node first second : Node) (c : SymbolicConfig) (ask : Ask) (solution : GeneralSolution) → IsSound problem node

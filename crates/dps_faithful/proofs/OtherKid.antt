@@ -370,6 +370,7 @@ module _ (problem : Problem) (node : Node) (sound : IsSound problem node) (c : S
       facts = λ s k l solves there under. facts_of_other s l (sound.facts s k l (solves_node s solves) there (under_node s k l under));
       recipes = λ s k l solves there under. sound.recipes s k l (solves_over s solves) there (under_node s k l under);
       closed = λ e. closed_of_other (sound.closed e);
+      done = sound.done;
     }
 
 pub second_is_sound : (problem : Problem) (node first second : Node) (c : SymbolicConfig) (ask : Ask) (solution : GeneralSolution) → IsSound problem node

@@ -114,6 +114,7 @@ module _ (problem : Problem) (node : Node) (cs : List SymbolicConfig) (among : (
     facts = λ s k l solves there under. facts_of_fewer s l (h.facts s k l solves (among k there) (under_node s k l under));
     recipes = λ s k l solves there under. h.recipes s k l (solves_node s solves) (among k there) (under_node s k l under);
     closed = λ e. closed_of_fewer (h.closed e);
+    done = h.done;
   }
 
 -- what is chosen is of the list, and all of it is chosen for one truth value

@@ -19,7 +19,8 @@ use Rattle.dps_node.specs.Words.{fresh_names, ground_word}
 use Rattle.dps_node.specs.Outcome.{changed, kids, passes, InTurn}
 use Rattle.dps_node.specs.Settling.{IsSettled}
 use Rattle.dps_node.specs.Knowing.{Composes}
-use Rattle.dps_node.specs.Expansion.{Acts, IsThrough, Stop, attack, Looks, stop, IsAt, StopsAt}
+use Rattle.dps_node.specs.Expansion.{Acts, IsThrough, Stop, attack, Looks, stop, IsAt, StopsAt, IsFirstStop}
+use Rattle.dps_node.specs.Invariant.{IsSound, IsWellFormed}
 
 -- a node of the tree at any moment of its expansion
 pub data IsReached (problem : Problem) (budget : ℕ) : List ℕ → Node → Type 0 where
@@ -28,6 +29,12 @@ pub data IsReached (problem : Problem) (budget : ℕ) : List ℕ → Node → Ty
       {path : List ℕ} {node other : Node}
       → IsReached problem budget path node → Acts problem node (changed other)
       → IsReached problem budget path other
+
+-- Each node is well formed, and sound at any moment of its expansion.
+abbrev pub NodesAreWellFormed : Problem → ℕ → Type 0
+NodesAreWellFormed problem budget =
+    ((path : List ℕ) (node : Node) → IsAt problem budget path node → IsWellFormed problem budget node)
+    × ((path : List ℕ) (node : Node) → IsReached problem budget path node → IsSound problem node)
 
 -- The traces of the instances of each node are those of the sides with its word, in its class of frames.
 abbrev pub NodesKeepTraces : Problem → ℕ → Type 0
@@ -116,6 +123,12 @@ AttacksAreAttacks problem budget =
 abbrev pub NoStopIsEquivalent : Problem → ℕ → Type 0
 NoStopIsEquivalent problem budget =
     ((path : List ℕ) (why : Stop) → ¬ StopsAt problem budget path why) → IsEquivalent problem
+
+-- The tree has a first stop, or none at all.
+abbrev pub HasFirstStopOrNone : Problem → ℕ → Type 0
+HasFirstStopOrNone problem budget =
+    ((path : List ℕ) × (why : Stop) × IsFirstStop problem budget path why)
+    ⊎ ((path : List ℕ) (why : Stop) → ¬ StopsAt problem budget path why)
 
 -- What is claimed of the trees of all problems that a file may mean, in the models where nothing is overheard.
 abbrev pub HoldsOfTrees : (Problem → ℕ → Type 0) → Type 0

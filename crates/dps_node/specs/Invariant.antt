@@ -183,6 +183,8 @@ pub record IsSound (problem : Problem) (node : Node) : Type 0 where
       (s : ℕ → Tree) (k l : SymbolicConfig) → IsSolutionOf problem.signature node s
       → Contains node.configs k → IsConfigUnder node s k l → HasRecipes problem node s l
   pub closed : node.closed ≡ true → IsClosedInMeaning problem node
+  -- a node is closed only once its last handle is examined
+  pub done : node.closed ≡ true → node.examine ≡ false
 
 -- The sizes of a node, so that no number of a variable, a handle or a step passes its bound.
 pub record IsSmall (problem : Problem) (budget : ℕ) (node : Node) : Type 0 where
