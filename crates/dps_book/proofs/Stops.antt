@@ -115,7 +115,9 @@ cut-rows rows new next cut t w count p k e c =
 left_back : (rows : List Row) (t : ℕ) (p : List ℕ) (u : ℕ) → IsBackAt rows (map (dropped_after p) (with_mark rows t p Posted)) u
 left_back rows t p u = λ r e o. let x = left_open rows t p u r (stopped rows t p u r e) o in (x.0, x.2, x.3, x.5)
 
-left_there : (rows : List Row) (next : List (Option ℕ)) (t w : ℕ) (p : List ℕ) (u : ℕ) (x : Row) (k : IsAround rows next t) → slice_get rows t ≡ Some (row p (Held w)) → (u ≡ t → ⊥) → slice_get rows u ≡ Some x
+left_there :
+    (rows : List Row) (next : List (Option ℕ)) (t w : ℕ) (p : List ℕ) (u : ℕ) (x : Row) (k : IsAround rows next t)
+    → slice_get rows t ≡ Some (row p (Held w)) → (u ≡ t → ⊥) → slice_get rows u ≡ Some x
     → is_open x.mark ≡ true → before p x.path ≡ false → (0 < times u k.behind) ⊎ (times u k.behind ≤ 0) → 1 ≤ times u k.front
 left_there rows next t w p u x k e n f o b (inl h) =
     let after : before p x.path ≡ true = behind-ticket rows k.front k.behind t u k.ascending (omega (arith, h)) (row p (Held w)) x e f refl o in
@@ -128,7 +130,9 @@ pub line-stop : (rows new : List Row) (next cut : List (Option ℕ)) (t w count 
 line-stop rows new next cut t w count p e c is line =
     let k = around rows next t (row p (Held w)) e refl line in
     let rest : c.rest ≡ k.behind = cut-rest rows (done_of rows t p) new next cut t count k c in
-    let apart = λ (u : ℕ) (h : 1 ≤ times u k.front). let z : times u (t ∷ c.rest) ≡ 0 = ap (λ (r : List ℕ). times u (t ∷ r)) rest ∙ (let s : times u (t ∷ k.behind) ≡ 0 = omega (arith, h, k.once u, times-split u t k.front k.behind) in s) in z in
+    let apart =
+    λ (u : ℕ) (h : 1 ≤ times u k.front). let z : times u (t ∷ c.rest) ≡ 0 = ap (λ (r : List ℕ). times u (t ∷ r)) rest
+    ∙ (let s : times u (t ∷ k.behind) ≡ 0 = omega (arith, h, k.once u, times-split u t k.front k.behind) in s) in z in
     let short : AreAscending rows (k.front ++ t ∷ []) = insert_behind rows k.front k.behind [] t k.ascending (tt, tt) (λ u v h m. absurd (omega (arith, m))) in
     subst (λ (r : List Row). IsLine r cut) (sym is) (record {
       each = c.each ∙ line.each ∙ sym (length-map (done_of rows t p) (dropped_after p) ∙ length-set rows t (row p Posted));

@@ -168,7 +168,8 @@ module _ (problem : Problem) (node : Node) (sound : IsSound problem node) (c : S
           | inl e ↦ elim (counted_cases (first node c ask solution found) (news node c ask solution found) n) [
             | inl d ↦
                 let is : put n ≡ leaf (var (first node c ask solution found + d.0)) = ap (substitute (renumbered node c ask solution found)) (not_of_node node c ask solution found n e) ∙ d.2 in
-                let q : var x ≡ var (first node c ask solution found + d.0) = alone (var x) (var (first node c ask solution found + d.0)) (subst (λ t. StandsIn (var x) (put_entries l.values t)) is h) in
+                let q : var x ≡ var (first node c ask solution found + d.0) =
+                alone (var x) (var (first node c ask solution found + d.0)) (subst (λ t. StandsIn (var x) (put_entries l.values t)) is h) in
                 let number : x ≡ first node c ask solution found + d.0 = cc in
                 let below = new_low x d.0 n d.1 number in omega (arith, below, high)
             | inr d ↦

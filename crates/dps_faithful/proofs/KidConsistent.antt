@@ -177,10 +177,13 @@ module _ (problem : Problem) (node : Node) (sound : IsSound problem node) (c : S
         let left = (All-contains (λ (w : Tree × Tree). IsNodeTree problem.signature node node.m w.0) d.pairs p.0 is.trees p.1).level in
         let right = (All-contains (λ (w : Tree × Tree). IsTreeOver problem.signature w.1 × HasNoOwnName w.1 × IsBuiltOf (IsPatternLeafOf node d.free) AnySymbol w.1) d.pairs p.0 is.patterns p.1).2 in
         let one = mapped {B = Tree × Tree} (λ (w : Tree × Tree). (substitute put w.0, substitute put w.1)) d.pairs p.0 p.1 in
-        let matches = All-contains (λ (w : Tree × Tree). substitute m.0 w.1 ≡ w.0) (map {B = Tree × Tree} (λ (w : Tree × Tree). (substitute identity w.0, substitute identity w.1)) (disequation_under put d).pairs)
+        let matches =
+        All-contains (λ (w : Tree × Tree). substitute m.0 w.1 ≡ w.0)
+        (map {B = Tree × Tree} (λ (w : Tree × Tree). (substitute identity w.0, substitute identity w.1)) (disequation_under put d).pairs)
         (substitute identity (substitute put p.0.0), substitute identity (substitute put p.0.1)) m.2
         (mapped {B = Tree × Tree} (λ (w : Tree × Tree). (substitute identity w.0, substitute identity w.1)) (disequation_under put d).pairs (substitute put p.0.0, substitute put p.0.1) one) in
-        let plain : substitute m.0 (substitute put p.0.1) ≡ substitute put p.0.0 = ap (substitute m.0) (sym (substitute_itself (substitute put p.0.1))) ∙ matches ∙ substitute_itself (substitute put p.0.0) in
+        let plain : substitute m.0 (substitute put p.0.1) ≡ substitute put p.0.0 =
+        ap (substitute m.0) (sym (substitute_itself (substitute put p.0.1))) ∙ matches ∙ substitute_itself (substitute put p.0.0) in
         subst (λ (w : Tree × Tree). substitute again w.1 ≡ w.0) (sym p.2)
         (substitute_in_turn again solution.bindings p.0.1
         ∙ substitute_agrees (λ n. substitute again (solution.bindings n)) (λ n. substitute back (substitute m.0 (put n))) p.0.1

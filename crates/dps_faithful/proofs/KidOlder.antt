@@ -85,7 +85,8 @@ module _ (problem : Problem) (node : Node) (sound : IsSound problem node) (c : S
       leaf_is (public (At n)) s = absurd (leaf_meets IsNoOwnName AnySymbol (put_own problem node sound c ask solution found binds kid applies low x) s)
       leaf_is (private n) s = leaf_meets (IsLeafUpTo NoRigidName node.m node.know (variables_of kid) j) AnySymbol (put_level problem node sound c ask solution found kid applies binds low x j at) s
       leaf_is (ax n) s = absurd (leaf_meets (IsLeafUpTo NoRigidName node.m node.know (variables_of kid) j) AnySymbol (put_level problem node sound c ask solution found kid applies binds low x j at) s)
-      leaf_is (rigid n) s = absurd (leaf_meets (IsLeafUpTo NoRigidName node.m node.know (variables_of kid) j) AnySymbol (put_level problem node sound c ask solution found kid applies binds low x j at) s).0
+      leaf_is (rigid n) s =
+          absurd (leaf_meets (IsLeafUpTo NoRigidName node.m node.know (variables_of kid) j) AnySymbol (put_level problem node sound c ask solution found kid applies binds low x j at) s).0
       leaf_is (var n) s = let d = kid_level problem node sound c ask solution found kid applies x j n at s in (d.0, d.1, omega (arith, d.2, small))
       leaf_is (entry n) s = let up = entry_low problem node sound c ask solution found kid applies x j n at s in older n up.0 up.1 up.2
 
@@ -131,7 +132,10 @@ module _ (problem : Problem) (node : Node) (sound : IsSound problem node) (c : S
 
   messages : (q k : SymbolicConfig) → Contains node.configs q → IsConfigUnder node put q k → All (IsNodeMessage problem.signature kid) k.values × All (IsNodeMessage problem.signature kid) k.frame
   messages q k there under =
-      let h = All-contains (λ (r : SymbolicConfig). All (IsNodeMessage problem.signature node) r.values × All (IsNodeMessage problem.signature node) r.frame) node.configs q sound.older.messages there in
+      let h =
+      All-contains
+      (λ (r : SymbolicConfig). All (IsNodeMessage problem.signature node) r.values × All (IsNodeMessage problem.signature node) r.frame)
+      node.configs q sound.older.messages there in
       let w = message_put problem node sound c ask solution found kid applies binds low q k there under in (
         all_mapped (IsNodeMessage problem.signature node) (IsNodeMessage problem.signature kid) (substitute (valued k.values put)) q.values k.values under.values h.0 w,
         all_mapped (IsNodeMessage problem.signature node) (IsNodeMessage problem.signature kid) (substitute (valued k.values put)) q.frame k.frame under.frame h.1 w,
@@ -158,7 +162,8 @@ module _ (problem : Problem) (node : Node) (sound : IsSound problem node) (c : S
 
   handles : All IsTreeOfKid kid.know.handles
   handles =
-      all_mapped (IsNodeTree problem.signature node node.m) IsTreeOfKid (substitute put) node.know.handles kid.know.handles (ap (λ (q : Knowledge). q.handles) applies.know) sound.older.handles tree_of_m
+      all_mapped (IsNodeTree problem.signature node node.m) IsTreeOfKid (substitute put) node.know.handles kid.know.handles
+      (ap (λ (q : Knowledge). q.handles) applies.know) sound.older.handles tree_of_m
 
   longer : length node.levels ≤ length kid.levels
   longer = omega (arith, ap length applies.levels, length-append node.levels (new_levels node solution.bindings))
@@ -207,7 +212,9 @@ module _ (problem : Problem) (node : Node) (sound : IsSound problem node) (c : S
   kid_has_older = record {
     recipes = recipes;
     values = values;
-    each_value = each_of (λ (k : SymbolicConfig). length k.values ≡ length kid.know.entries) (λ q k there under. (have_older problem node sound c ask solution found kid applies q k there under).each_value);
+    each_value =
+        each_of (λ (k : SymbolicConfig). length k.values ≡ length kid.know.entries)
+        (λ q k there under. (have_older problem node sound c ask solution found kid applies q k there under).each_value);
     each_message = each_of (λ (k : SymbolicConfig). length k.frame ≡ kid.m) (λ q k there under.
         ap length under.frame ∙ length-map q.frame (substitute (valued k.values put))
         ∙ All-contains (λ (r : SymbolicConfig). length r.frame ≡ node.m) node.configs q sound.older.each_message there ∙ sym applies.m);

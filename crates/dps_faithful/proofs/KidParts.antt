@@ -71,7 +71,8 @@ module _ (problem : Problem) (node : Node) (sound : IsSound problem node) (c : S
       at (public (At n)) s h = absurd (leaf_meets IsNoOwnName AnySymbol (put_own problem node sound c ask solution found binds kid applies low x) s)
       at (private n) s h = tt
       at (ax n) s h = absurd (leaf_meets (IsLeafUpTo NoRigidName node.m node.know (variables_of kid) j) AnySymbol (put_level problem node sound c ask solution found kid applies binds low x j e) s)
-      at (rigid n) s h = absurd (leaf_meets (IsLeafUpTo NoRigidName node.m node.know (variables_of kid) j) AnySymbol (put_level problem node sound c ask solution found kid applies binds low x j e) s).0
+      at (rigid n) s h =
+          absurd (leaf_meets (IsLeafUpTo NoRigidName node.m node.know (variables_of kid) j) AnySymbol (put_level problem node sound c ask solution found kid applies binds low x j e) s).0
       at (var n) s h = let d = kid_level problem node sound c ask solution found kid applies x j n e s in there_is (level_of (variables_of kid) n) d.0 d.1
       at (entry i) s h =
           let up = entry_low problem node sound c ask solution found kid applies x j i e s in
@@ -97,7 +98,8 @@ module _ (problem : Problem) (node : Node) (sound : IsSound problem node) (c : S
   values_below (suc n) (suc i) e there small v at =
       let u = value_back (valued l.values put) (slice_get k.values i) v
       (sym (slice_get-map (substitute (valued l.values put)) k.values i) ∙ sym (ap (λ (vs : List Tree). slice_get vs i) under.values) ∙ at) in
-      let messages = (All-contains (λ (q : SymbolicConfig). All (IsNodeMessage problem.signature node) q.values × All (IsNodeMessage problem.signature node) q.frame) node.configs k sound.older.messages listed).0 in
+      let messages =
+      (All-contains (λ (q : SymbolicConfig). All (IsNodeMessage problem.signature node) q.values × All (IsNodeMessage problem.signature node) q.frame) node.configs k sound.older.messages listed).0 in
       let is = All-contains (IsNodeMessage problem.signature node) k.values u.0 messages (contains_at k.values i u.0 u.1) in
       subst IsMessage (sym u.2) (message_from u.0 is (λ x s.
       let j = (sound.older.values k (suc i) e u.0 listed there u.1).1 x s in

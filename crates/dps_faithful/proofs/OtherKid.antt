@@ -109,11 +109,16 @@ module _ (problem : Problem) (node : Node) (sound : IsSound problem node) (c : S
   part_of_other p h = record { terms = h.terms; channels = h.channels; binders = h.binders; free = λ x k. of_other x (h.free x k) }
 
   longer : length other.levels ≡ length node.levels + length (new_variables node solution.bindings)
-  longer = length-append node.levels (map (new_level node solution.bindings) (new_variables node solution.bindings)) ∙ ap (λ n. length node.levels + n) (length-map (new_variables node solution.bindings) (new_level node solution.bindings))
+  longer =
+      length-append node.levels (map (new_level node solution.bindings) (new_variables node solution.bindings))
+      ∙ ap (λ n. length node.levels + n) (length-map (new_variables node solution.bindings) (new_level node solution.bindings))
 
   disequation_of_other : (d : Disequation) → IsNodeDisequation problem.signature node d → IsNodeDisequation problem.signature other d
   disequation_of_other d h = record {
-    trees = All-weaker (λ (p : Tree × Tree). IsNodeTree problem.signature node node.m p.0) (λ (p : Tree × Tree). IsNodeTree problem.signature other node.m p.0) (λ p k. tree_of_other node.m p.0 k) d.pairs h.trees;
+    trees =
+        All-weaker (λ (p : Tree × Tree). IsNodeTree problem.signature node node.m p.0)
+        (λ (p : Tree × Tree). IsNodeTree problem.signature other node.m p.0) (λ p k. tree_of_other node.m p.0 k) d.pairs
+        h.trees;
     patterns = All-weaker (λ (p : Tree × Tree). IsTreeOver problem.signature p.1 × HasNoOwnName p.1 × IsBuiltOf (IsPatternLeafOf node d.free) AnySymbol p.1)
         (λ (p : Tree × Tree). IsTreeOver problem.signature p.1 × HasNoOwnName p.1 × IsBuiltOf (IsPatternLeafOf other d.free) AnySymbol p.1)
         (λ p k. (k.0, k.1, built_weaker (IsPatternLeafOf node d.free) AnySymbol (IsPatternLeafOf other d.free) p.1 k.2 (pattern_leaf d.free))) d.pairs h.patterns;

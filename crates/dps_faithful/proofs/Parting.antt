@@ -50,7 +50,10 @@ module _ (problem : Problem) (node : Node) (cs : List SymbolicConfig) (among : (
 
   disequation_of_fewer : (d : Disequation) → IsNodeDisequation problem.signature node d → IsNodeDisequation problem.signature fewer d
   disequation_of_fewer d h = record {
-    trees = All-weaker (λ (p : Tree × Tree). IsNodeTree problem.signature node node.m p.0) (λ (p : Tree × Tree). IsNodeTree problem.signature fewer node.m p.0) (λ p k. tree_of_fewer node.m p.0 k) d.pairs h.trees;
+    trees =
+        All-weaker (λ (p : Tree × Tree). IsNodeTree problem.signature node node.m p.0)
+        (λ (p : Tree × Tree). IsNodeTree problem.signature fewer node.m p.0) (λ p k. tree_of_fewer node.m p.0 k) d.pairs
+        h.trees;
     patterns = h.patterns;
     free = h.free;
   }

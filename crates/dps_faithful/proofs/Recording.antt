@@ -258,7 +258,8 @@ module _ (problem : Problem) (node : Node) (sound : IsSound problem node) (work 
         }) (record { trees = fresh.choice.trees }) in
         let under = becomes node own g.0 c g.1 in
         let facts = sound.facts own c (config_under own g.0 c) fresh listed under in
-        let ground : IsGroundUpTo NoRigidName node.m node.know (node.m - 1) (substitute own t) = level_of_instance NoRigidName node.m node.know (variables_of node) own (node.m - 1) fresh.choice.trees t down in
+        let ground : IsGroundUpTo NoRigidName node.m node.know (node.m - 1) (substitute own t) =
+        level_of_instance NoRigidName node.m node.know (variables_of node) own (node.m - 1) fresh.choice.trees t down in
         let v = value_there g.0 g.1 in
         let same = value own c (config_under own g.0 c) fresh listed under v.0 v.1 in
         elim (cases_lt at.level node.m) [
@@ -346,7 +347,10 @@ module _ (problem : Problem) (node : Node) (sound : IsSound problem node) (work 
         choice = record { trees = λ x l e. ground_before l (s x) (h.choice.trees x l e); others = h.choice.others };
         normal = λ x l e. normal_before s (s x) (h.normal x l e);
         respects = record {
-          labels = All-weaker (λ u. IsNormalUnder s (system_of after) (substitute s u)) (λ u. IsNormalUnder s (system_of node) (substitute s u)) (λ u k. normal_before s (substitute s u) k) (label_trees node) h.respects.labels;
+          labels =
+              All-weaker (λ u. IsNormalUnder s (system_of after) (substitute s u))
+              (λ u. IsNormalUnder s (system_of node) (substitute s u)) (λ u k. normal_before s (substitute s u) k)
+              (label_trees node) h.respects.labels;
           disequations = h.respects.disequations;
         };
       },

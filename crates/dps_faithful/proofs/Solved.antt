@@ -122,13 +122,18 @@ module _ (problem : Problem) (node : Node) (sound : IsSound problem node) (c : S
           → map {B = Tree × Tree} (λ (p : Tree × Tree). (substitute t p.0, substitute t p.1)) (disequation_under put d).pairs
           ≡ map {B = Tree × Tree} (λ (p : Tree × Tree). (substitute s p.0, substitute s p.1)) d.pairs
       same_pairs d h =
-          map_both {Y = Tree × Tree} {Z = Tree × Tree} (λ (p : Tree × Tree). (substitute put p.0, substitute put p.1)) (λ (p : Tree × Tree). (substitute t p.0, substitute t p.1)) (λ (p : Tree × Tree). (substitute s p.0, substitute s p.1)) d.pairs each
+          map_both {Y = Tree × Tree} {Z = Tree × Tree} (λ (p : Tree × Tree). (substitute put p.0, substitute put p.1))
+          (λ (p : Tree × Tree). (substitute t p.0, substitute t p.1))
+          (λ (p : Tree × Tree). (substitute s p.0, substitute s p.1)) d.pairs each
         where
           each : (p : Tree × Tree) → Contains d.pairs p
               → IsPair (substitute t (substitute put p.0)) (substitute t (substitute put p.1)) (substitute s p.0) (substitute s p.1)
           each p k =
-              let left = same_tree p.0 (tree_known node.m p.0 (All-contains (λ (q : Tree × Tree). IsNodeTree problem.signature node node.m q.0) d.pairs p (disequation_at problem node sound d h).trees k).level) in
-              let up = (All-contains (λ (q : Tree × Tree). IsTreeOver problem.signature q.1 × HasNoOwnName q.1 × IsBuiltOf (IsPatternLeafOf node d.free) AnySymbol q.1) d.pairs p (disequation_at problem node sound d h).patterns k).2 in
+              let left =
+              same_tree p.0
+              (tree_known node.m p.0 (All-contains (λ (q : Tree × Tree). IsNodeTree problem.signature node node.m q.0) d.pairs p (disequation_at problem node sound d h).trees k).level) in
+              let up =
+              (All-contains (λ (q : Tree × Tree). IsTreeOver problem.signature q.1 × HasNoOwnName q.1 × IsBuiltOf (IsPatternLeafOf node d.free) AnySymbol q.1) d.pairs p (disequation_at problem node sound d h).patterns k).2 in
               let right : substitute t (substitute put p.1) ≡ substitute s p.1 =
               substitute_in_turn t put p.1 ∙ substitute_agrees (λ n. substitute t (put n)) s p.1 (λ n b. pattern_leaf d h n (leaf_meets (IsPatternLeafOf node d.free) AnySymbol up b)) in
               λ i. (left i, right i)

@@ -156,7 +156,9 @@ module _ (problem : Problem) (node : Node) (sound : IsSound problem node) where
       entry_low : (e : Entry) → Contains node.know.entries e → All IsLow (entry_numbers e)
       entry_low e h = all_of IsLow (entry_numbers e) (λ x k.
           let place = placed node.know.entries e h in
-          let b = leaf_meets (IsEntryRecipeLeaf problem.signature node (suc place.0) e.level) (HasArity (shapes problem.signature)) (sound.older.recipes (suc place.0) e place.1) (occurrence_stands e.recipe x k) in
+          let b =
+          leaf_meets (IsEntryRecipeLeaf problem.signature node (suc place.0) e.level) (HasArity (shapes problem.signature))
+          (sound.older.recipes (suc place.0) e place.1) (occurrence_stands e.recipe x k) in
           level_low x b.0 b.1)
 
       pattern_low : (d : Disequation) → Contains node.disequations d → (t : Tree) → IsBuiltOf (IsPatternLeafOf node d.free) AnySymbol t → All IsLow (occurrences t)

@@ -40,7 +40,9 @@ module _ (names : ℕ → Type 0) (theory : Theory) (node : Node) (c : SymbolicC
   z x = valued g s x
 
   -- the terms become these messages
-  become : (y : ℕ → Tree) (ts : List Tree) → ((x l : ℕ) → level_of (variables_of node) x ≡ Some l → y x ≡ z x) → All (λ t. IsMessageUnder theory node z t) ts → substitute_all y (trees ts) ≡ trees (map (substitute z) ts)
+  become :
+      (y : ℕ → Tree) (ts : List Tree) → ((x l : ℕ) → level_of (variables_of node) x ≡ Some l → y x ≡ z x)
+      → All (λ t. IsMessageUnder theory node z t) ts → substitute_all y (trees ts) ≡ trees (map (substitute z) ts)
   become y [] h k = refl
   become y (t ∷ ts) h k =
       let first = All-head (λ t. IsMessageUnder theory node z t) t ts k in
@@ -56,7 +58,10 @@ module _ (names : ℕ → Type 0) (theory : Theory) (node : Node) (c : SymbolicC
     there : HasShape theory.shapes Destructor f (count (trees (map (substitute z) values)))
     there = subst (HasShape theory.shapes Destructor f) (sym (count_mapped (substitute z) values)) shape
 
-    success_true : (used : Found) → IsUnder names node c (success theory node f values) s g → IsDecided node c (success theory node f values) (Some used) → Evaluates theory (app f (trees (map (substitute z) values))) (substitute z (value_of used))
+    success_true :
+        (used : Found) → IsUnder names node c (success theory node f values) s g
+        → IsDecided node c (success theory node f values) (Some used)
+        → Evaluates theory (app f (trees (map (substitute z) values))) (substitute z (value_of used))
     success_true used under d =
         let question : Question = success theory node f values in
         let is : IsUsed (scene_of node c) question used = is_used node c question used d in
@@ -101,12 +106,18 @@ module _ (names : ℕ → Type 0) (theory : Theory) (node : Node) (c : SymbolicC
               })
         ]
 
-    pub success_tells : (o : Option Found) → IsUnder names node c (success theory node f values) s g → IsDecided node c (success theory node f values) o → Tells o (λ used. Evaluates theory (app f (trees (map (substitute (valued g s)) values))) (substitute (valued g s) (value_of used))) (¬ IsMessage theory (app f (trees (map (substitute (valued g s)) values))))
+    pub success_tells :
+        (o : Option Found) → IsUnder names node c (success theory node f values) s g
+        → IsDecided node c (success theory node f values) o
+        → Tells o (λ used. Evaluates theory (app f (trees (map (substitute (valued g s)) values))) (substitute (valued g s) (value_of used))) (¬ IsMessage theory (app f (trees (map (substitute (valued g s)) values))))
     success_tells (Some used) under d = success_true used under d
     success_tells None under d = success_false under d
 
 module _ (names : ℕ → Type 0) (node : Node) (c : SymbolicConfig) (s : ℕ → Tree) (g : List Tree) where
-  each_target : (eta : ℕ → Tree) (t : Tree) (n : ℕ) (us args : List Tree) → All (λ u. IsGroundUpTo AnyRigidName node.m node.know node.m u) us → map (put_entries g) us ≡ map (substitute eta) args → AllZip (λ (z : Target) t. IsGroundUpTo AnyRigidName node.m node.know z.level t × (put_entries g t ≡ substitute eta z.term)) (argument_targets (record { name = 0; level = node.m; term = t }) (range_with_len n (length args)) args) us
+  each_target :
+      (eta : ℕ → Tree) (t : Tree) (n : ℕ) (us args : List Tree)
+      → All (λ u. IsGroundUpTo AnyRigidName node.m node.know node.m u) us → map (put_entries g) us ≡ map (substitute eta) args
+      → AllZip (λ (z : Target) t. IsGroundUpTo AnyRigidName node.m node.know z.level t × (put_entries g t ≡ substitute eta z.term)) (argument_targets (record { name = 0; level = node.m; term = t }) (range_with_len n (length args)) args) us
   each_target eta t n [] [] h e = tt
   each_target eta t n (u ∷ us) [] h e = cc
   each_target eta t n [] (a ∷ args) h e = cc
@@ -115,7 +126,10 @@ module _ (names : ℕ → Type 0) (node : Node) (c : SymbolicConfig) (s : ℕ �
       let rest : map (put_entries g) us ≡ map (substitute eta) args = cc in
       ((All-head (λ u. IsGroundUpTo AnyRigidName node.m node.know node.m u) u us h, here), each_target eta t (n + 1) us args (All-tail (λ u. IsGroundUpTo AnyRigidName node.m node.know node.m u) u us h) rest)
 
-  pub composition_false : (t : Tree) (us : List Tree) → IsUnder names node c (composition node t) s g → IsDecided node c (composition node t) None → All (λ u. IsGroundUpTo AnyRigidName node.m node.know node.m u) us → map (put_entries g) us ≢ map (substitute (valued g s)) (arguments t)
+  pub composition_false :
+      (t : Tree) (us : List Tree) → IsUnder names node c (composition node t) s g → IsDecided node c (composition node t) None
+      → All (λ u. IsGroundUpTo AnyRigidName node.m node.know node.m u) us
+      → map (put_entries g) us ≢ map (substitute (valued g s)) (arguments t)
   composition_false t us under d ground e =
       let numbers : List ℕ = range_with_len (first_free node) (length (arguments t)) in
       let q : Query = record { ask = record { equations = []; targets = argument_targets (record { name = 0; level = node.m; term = t }) numbers (arguments t) }; result = root_over t numbers } in

@@ -66,7 +66,9 @@ true_or_false : (b : Bool) → b ≡ true → b ≡ false → ⊥
 true_or_false b e f = let d : true ≡ false = sym e ∙ f in cc
 
 -- lists that are taken in turn
-pub in_turn_once : {A : Type 0} (takes : A → ℕ → Pass → Type 0) → ((a : A) (n : ℕ) (p q : Pass) → takes a n p → takes a n q → SamePass p q) → {list : List A} {n : ℕ} {p q : Pass} → InTurn takes list n p → InTurn takes list n q → SamePass p q
+pub in_turn_once :
+    {A : Type 0} (takes : A → ℕ → Pass → Type 0) → ((a : A) (n : ℕ) (p q : Pass) → takes a n p → takes a n q → SamePass p q)
+    → {list : List A} {n : ℕ} {p q : Pass} → InTurn takes list n p → InTurn takes list n q → SamePass p q
 in_turn_once takes once through through = refl
 in_turn_once takes once {q = q} (next {a = a} {rest = rest} {n = n} {k = k} h t) (next {k = k'} h' t') =
     let e : k ≡ k' = once a n (passes k) (passes k') h h' in
@@ -111,7 +113,8 @@ module _ (node : Node) where
   examines_once values n p q (open_tree h k f) (open_tree h' k' f') = finding_at f f' (ap (λ m. n + m) ((asks_each_once Answers answers_once node h h').1))
 
   after_handle_same : (p q : Finding) → SameFinding p q → SameOutcome (after_handle node p) (after_handle node q)
-  after_handle_same (unknown n) (unknown m) h = ap (λ k. at_count (with_handle (with_entry node (leaf (ax node.m)) (map (last_message node) (node.configs))) (leaf (entry (length (node.know.entries) + 1)))) k) h
+  after_handle_same (unknown n) (unknown m) h =
+      ap (λ k. at_count (with_handle (with_entry node (leaf (ax node.m)) (map (last_message node) (node.configs))) (leaf (entry (length (node.know.entries) + 1)))) k) h
   after_handle_same (unknown n) (known m u) h = absurd h
   after_handle_same (unknown n) (splits p) h = absurd h
   after_handle_same (known n t) (unknown m) h = absurd h
@@ -165,15 +168,21 @@ module _ (node : Node) where
   module _ (theory : Theory) where
     pub fact_once : (t : Tree) (n : ℕ) (p q : Pass) → UsesFact theory node t n p → UsesFact theory node t n q → SamePass p q
     fact_once t n p q (never h a e) (never h' a' e') = pass_at e e' (ap (λ m. n + m) ((asks_each_once Answers answers_once node h h').1))
-    fact_once t n p q (never {os = os} h a e) (sometimes {os = ps} h' a' b' e') = absurd (true_or_false (list_any is_true ps) a' (ap (list_any is_true) (sym (decided_same os ps (asks_each_once Answers answers_once node h h').0)) ∙ a))
-    fact_once t n p q (never {os = os} h a e) (always {os = ps} h' a' b' x' e') = absurd (true_or_false (list_any is_true ps) a' (ap (list_any is_true) (sym (decided_same os ps (asks_each_once Answers answers_once node h h').0)) ∙ a))
+    fact_once t n p q (never {os = os} h a e) (sometimes {os = ps} h' a' b' e') =
+        absurd (true_or_false (list_any is_true ps) a' (ap (list_any is_true) (sym (decided_same os ps (asks_each_once Answers answers_once node h h').0)) ∙ a))
+    fact_once t n p q (never {os = os} h a e) (always {os = ps} h' a' b' x' e') =
+        absurd (true_or_false (list_any is_true ps) a' (ap (list_any is_true) (sym (decided_same os ps (asks_each_once Answers answers_once node h h').0)) ∙ a))
     fact_once t n p q (never {os = os} h a e) (open_success {s = s} h' k' e') = absurd (never_both os s ((asks_each_once Answers answers_once node h h').0))
-    fact_once t n p q (sometimes {os = ps} h' a' b' e') (never {os = os} h a e) = absurd (true_or_false (list_any is_true ps) a' (ap (list_any is_true) (sym (decided_same os ps (asks_each_once Answers answers_once node h h').0)) ∙ a))
+    fact_once t n p q (sometimes {os = ps} h' a' b' e') (never {os = os} h a e) =
+        absurd (true_or_false (list_any is_true ps) a' (ap (list_any is_true) (sym (decided_same os ps (asks_each_once Answers answers_once node h h').0)) ∙ a))
     fact_once t n p q (sometimes h a b e) (sometimes h' a' b' e') = pass_at e e' (ap (λ m. n + m) ((asks_each_once Answers answers_once node h h').1))
-    fact_once t n p q (sometimes {os = os} h a b e) (always {os = ps} h' a' b' x' e') = absurd (true_or_false (list_all is_true ps) b' (ap (list_all is_true) (sym (decided_same os ps (asks_each_once Answers answers_once node h h').0)) ∙ b))
+    fact_once t n p q (sometimes {os = os} h a b e) (always {os = ps} h' a' b' x' e') =
+        absurd (true_or_false (list_all is_true ps) b' (ap (list_all is_true) (sym (decided_same os ps (asks_each_once Answers answers_once node h h').0)) ∙ b))
     fact_once t n p q (sometimes {os = os} h a b e) (open_success {s = s} h' k' e') = absurd (never_both os s ((asks_each_once Answers answers_once node h h').0))
-    fact_once t n p q (always {os = ps} h' a' b' x' e') (never {os = os} h a e) = absurd (true_or_false (list_any is_true ps) a' (ap (list_any is_true) (sym (decided_same os ps (asks_each_once Answers answers_once node h h').0)) ∙ a))
-    fact_once t n p q (always {os = ps} h' a' b' x' e') (sometimes {os = os} h a b e) = absurd (true_or_false (list_all is_true ps) b' (ap (list_all is_true) (sym (decided_same os ps (asks_each_once Answers answers_once node h h').0)) ∙ b))
+    fact_once t n p q (always {os = ps} h' a' b' x' e') (never {os = os} h a e) =
+        absurd (true_or_false (list_any is_true ps) a' (ap (list_any is_true) (sym (decided_same os ps (asks_each_once Answers answers_once node h h').0)) ∙ a))
+    fact_once t n p q (always {os = ps} h' a' b' x' e') (sometimes {os = os} h a b e) =
+        absurd (true_or_false (list_all is_true ps) b' (ap (list_all is_true) (sym (decided_same os ps (asks_each_once Answers answers_once node h h').0)) ∙ b))
     fact_once t n p q (always {os = os} {steps = k} {finding = r} h a b x e) (always {os = ps} {steps = m} {finding = s} h' a' b' x' e') =
         let w = asks_each_once Answers answers_once node h h' in
         let d : ps ≡ os = sym (decided_same os ps w.0) in
@@ -206,7 +215,8 @@ module _ (node : Node) where
     in_computes_once h k = in_turn_once (Computes theory node) computes_once h k
 
     pub knows_once : (p q : Outcome) → Knows theory node p → Knows theory node q → SameOutcome p q
-    knows_once p q (by_handle {finding = r} x h e) (by_handle {finding = s} x' h' e') = outcome_at e e' (after_handle_same r s (examines_once (map (last_message node) (node.configs)) (node.count) r s h h'))
+    knows_once p q (by_handle {finding = r} x h e) (by_handle {finding = s} x' h' e') =
+        outcome_at e e' (after_handle_same r s (examines_once (map (last_message node) (node.configs)) (node.count) r s h h'))
     knows_once p q (by_handle x h e) (by_composition x' h') = absurd (true_false x x')
     knows_once p q (by_handle x h e) (by_rule x' h' k') = absurd (true_false x x')
     knows_once p q (by_handle x h e) (by_closing x' h' k' e') = absurd (true_false x x')

@@ -9,12 +9,16 @@ use Rattle.dps_terms.specs.Tree.{Tree}
 use Rattle.dps_renewal.specs.Putting.{changes}
 use Rattle.dps_renewal.proofs.EachOnce.{one_more}
 
-pub mapped_more : {A B : Type 0} (f : A → B) (xs : List A) (i : ℕ) (d : A) (old new : List B) (v : B) → i < length xs → new ≡ old ++ v ∷ [] → v ≡ f (get_or xs i d) → old ≡ map f (take i xs) → new ≡ map f (take (i + 1) xs)
+pub mapped_more :
+    {A B : Type 0} (f : A → B) (xs : List A) (i : ℕ) (d : A) (old new : List B) (v : B) → i < length xs → new ≡ old ++ v ∷ []
+    → v ≡ f (get_or xs i d) → old ≡ map f (take i xs) → new ≡ map f (take (i + 1) xs)
 mapped_more f xs i d old new v l e w o =
     e ∙ ((λ k. o k ++ w k ∷ []) ∙ sym (ap (map f) (one_more xs i d l) ∙ map-append f (take i xs) (get_or xs i d ∷ [])))
 
 -- the changes of one variable more
-pub changes_more : (by : List (ℕ × Tree)) (xs : List ℕ) (i : ℕ) (old new : List (Tree × Tree)) → i < length xs → new ≡ old ++ changes by (get_or xs i 0 ∷ []) → old ≡ changes by (take i xs) → new ≡ changes by (take (i + 1) xs)
+pub changes_more :
+    (by : List (ℕ × Tree)) (xs : List ℕ) (i : ℕ) (old new : List (Tree × Tree)) → i < length xs
+    → new ≡ old ++ changes by (get_or xs i 0 ∷ []) → old ≡ changes by (take i xs) → new ≡ changes by (take (i + 1) xs)
 changes_more by xs i old new l e o =
     e ∙ (ap (λ ps. ps ++ changes by (get_or xs i 0 ∷ [])) o ∙ sym (ap (changes by) (one_more xs i 0 l) ∙ filter_map-append _ (take i xs) (get_or xs i 0 ∷ [])))
 

@@ -15,7 +15,9 @@ use Rattle.dps_renewal.specs.Numbering.{is_among}
 use Rattle.dps_renewal.proofs.EachOnce.{once_more, among_once, one_more}
 
 -- the next number with its level
-pub next_level : (P : ℕ × ℕ → Bool) (levels : List ℕ) (i d : ℕ) → i < length levels → filter P (numbered_from (i + 1) (drop i levels)) ≡ filter P ((i + 1, get_or levels i d) ∷ []) ++ filter P (numbered_from ((i + 1) + 1) (drop (i + 1) levels))
+pub next_level :
+    (P : ℕ × ℕ → Bool) (levels : List ℕ) (i d : ℕ) → i < length levels
+    → filter P (numbered_from (i + 1) (drop i levels)) ≡ filter P ((i + 1, get_or levels i d) ∷ []) ++ filter P (numbered_from ((i + 1) + 1) (drop (i + 1) levels))
 next_level P levels i d h =
     ap (λ xs. filter P (numbered_from (i + 1) xs)) (drop-cons levels i d h)
     ∙ filter-append P ((i + 1, get_or levels i d) ∷ []) (numbered_from ((i + 1) + 1) (drop (suc i) levels))
@@ -39,7 +41,9 @@ of_labels ls = flat_map occurrences (filter_map label_tree ls)
 of_labels_more : (ls : List Label) (l : Label) → of_labels (ls ++ l ∷ []) ≡ of_labels ls ++ of_labels (l ∷ [])
 of_labels_more ls l = ap (flat_map occurrences) (filter_map-append label_tree ls (l ∷ [])) ∙ flat_map-append occurrences (filter_map label_tree ls) (filter_map label_tree (l ∷ []))
 
-pub labels_more : (ls : List LabelValue) (i : ℕ) (d : LabelValue) → i < length ls → of_labels (map label_of (take (i + 1) ls)) ≡ of_labels (map label_of (take i ls)) ++ of_labels (label_of (get_or ls i d) ∷ [])
+pub labels_more :
+    (ls : List LabelValue) (i : ℕ) (d : LabelValue) → i < length ls
+    → of_labels (map label_of (take (i + 1) ls)) ≡ of_labels (map label_of (take i ls)) ++ of_labels (label_of (get_or ls i d) ∷ [])
 labels_more ls i d h =
     ap (λ xs. of_labels (map label_of xs)) (one_more ls i d h)
     ∙ ap of_labels (map-append label_of (take i ls) (get_or ls i d ∷ []))
@@ -51,7 +55,9 @@ label_adds xs (inputs c t) = once_more xs (occurrences t) ∙ ap (λ ys. each_on
 label_adds xs (outputs c j) = ap each_once (sym (append-nil xs))
 label_adds xs (overhears c j) = ap each_once (sym (append-nil xs))
 
-pub next_label : (ls : List LabelValue) (i : ℕ) (d : LabelValue) → i < length ls → insert_all nat_eq (each_once (of_labels (map label_of (take i ls)))) (label_variables (label_of (get_or ls i d))) ≡ each_once (of_labels (map label_of (take (i + 1) ls)))
+pub next_label :
+    (ls : List LabelValue) (i : ℕ) (d : LabelValue) → i < length ls
+    → insert_all nat_eq (each_once (of_labels (map label_of (take i ls)))) (label_variables (label_of (get_or ls i d))) ≡ each_once (of_labels (map label_of (take (i + 1) ls)))
 next_label ls i d h = label_adds (of_labels (map label_of (take i ls))) (label_of (get_or ls i d)) ∙ ap each_once (sym (labels_more ls i d h))
 
 filter_alike : {A : Type 0} (p q : A → Bool) (xs : List A) → ((x : A) → p x ≡ q x) → filter p xs ≡ filter q xs

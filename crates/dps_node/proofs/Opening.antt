@@ -49,7 +49,9 @@ module _ (p q : ℕ) where
   abbrev unifier : List (ℕ × Tree)
   unifier = (1, leaf (private p)) ∷ (2, leaf (private q)) ∷ []
 
-  at_cond : (b c : Bool) (n : ℕ) → unwrap_or (cond b (Some (leaf (private p))) (cond c (Some (leaf (private q))) None)) (leaf (var n)) ≡ cond b (leaf (private p)) (cond c (leaf (private q)) (leaf (var n)))
+  at_cond :
+      (b c : Bool) (n : ℕ)
+      → unwrap_or (cond b (Some (leaf (private p))) (cond c (Some (leaf (private q))) None)) (leaf (var n)) ≡ cond b (leaf (private p)) (cond c (leaf (private q)) (leaf (var n)))
   at_cond true c n = refl
   at_cond false true n = refl
   at_cond false false n = refl
@@ -65,7 +67,9 @@ module _ (p q : ℕ) where
         ]
       ]
 
-  bound_cond : (b c : Bool) (t : Tree) → cond b (Some (leaf (private p))) (cond c (Some (leaf (private q))) None) ≡ Some t → ((b ≡ true) × (t ≡ leaf (private p))) ⊎ ((c ≡ true) × (t ≡ leaf (private q)))
+  bound_cond :
+      (b c : Bool) (t : Tree) → cond b (Some (leaf (private p))) (cond c (Some (leaf (private q))) None) ≡ Some t
+      → ((b ≡ true) × (t ≡ leaf (private p))) ⊎ ((c ≡ true) × (t ≡ leaf (private q)))
   bound_cond true c t e = inl (refl, cc)
   bound_cond false true t e = inr (refl, cc)
   bound_cond false false t e = cc

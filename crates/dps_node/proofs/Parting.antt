@@ -11,7 +11,9 @@ use Rattle.dps_node.specs.Code.{config_of}
 one_less : (n m : ℕ) → suc n ≡ suc m → n ≡ m
 one_less n m e = omega arith
 
-pub chosen_last : {A : Type 0} (b : Bool) (bs : List Bool) (cs : List A) (h : Bool) (c : A) → length bs ≡ length cs → chosen b (bs ++ h ∷ []) (cs ++ c ∷ []) ≡ chosen b bs cs ++ chosen b (h ∷ []) (c ∷ [])
+pub chosen_last :
+    {A : Type 0} (b : Bool) (bs : List Bool) (cs : List A) (h : Bool) (c : A) → length bs ≡ length cs
+    → chosen b (bs ++ h ∷ []) (cs ++ c ∷ []) ≡ chosen b bs cs ++ chosen b (h ∷ []) (c ∷ [])
 chosen_last true [] [] h c e = refl
 chosen_last false [] [] h c e = refl
 chosen_last b [] (x ∷ cs) h c e = absurd (omega arith)
@@ -86,7 +88,9 @@ where_alike node ds [] = refl
 where_alike node ds (c ∷ cs) = refl
 
 -- the kids of a partition are those with the configurations that are chosen
-pub parts_are : (node : Node) (holds : List Bool) (cs these others : List SymConfig) (ds : List SymbolicConfig) → node.configs ≡ map config_of cs → these ≡ chosen true holds cs → others ≡ chosen false holds cs
+pub parts_are :
+    (node : Node) (holds : List Bool) (cs these others : List SymConfig) (ds : List SymbolicConfig)
+    → node.configs ≡ map config_of cs → these ≡ chosen true holds cs → others ≡ chosen false holds cs
     → where_any (with_configs node ds) (map config_of these) ++ where_any (with_configs node ds) (map config_of others) ≡ partition node holds
 parts_are node holds cs these others ds k t o =
     let first : map config_of these ≡ chosen true holds (node.configs) =

@@ -123,7 +123,9 @@ kept =
     (leaves_out refl (leaves_out refl (leaves_out refl (leaves_out refl (leaves_out refl kept_all)))))
 
 expands0 : Expands two_names n0 0 (k0 ∷ [])
-expands0 = changes act0 (changes act1 (shows (record { settled = settled0 true true; closed = refl; mixed = two (λ (c : SymbolicConfig). c.mixed ≡ true) (marked l0) (marked r0) refl refl }) kept refl))
+expands0 =
+    changes act0
+    (changes act1 (shows (record { settled = settled0 true true; closed = refl; mixed = two (λ (c : SymbolicConfig). c.mixed ≡ true) (marked l0) (marked r0) refl refl }) kept refl))
 
 looks0 : Looks two_names 6 n0 (branches (k0 ∷ []))
 looks0 = expands (λ side. not_both_sides side l0 r0 refl refl) expands0 (omega arith) refl

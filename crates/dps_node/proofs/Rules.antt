@@ -72,7 +72,9 @@ module _ (theory : Theory) (node : Node) where
     pub yeses : pos ≡ so
     pub noes : alt ≡ other
 
-  asks_for_once : (p alt other : Process) (question asked : Question) (pos so : Tree → Process) → AsksFor theory node p question pos alt → AsksFor theory node p asked so other → SameAsked question asked pos so alt other
+  asks_for_once :
+      (p alt other : Process) (question asked : Question) (pos so : Tree → Process) → AsksFor theory node p question pos alt
+      → AsksFor theory node p asked so other → SameAsked question asked pos so alt other
   asks_for_once p alt other question asked pos so tests tests = record { questions = refl; yeses = refl; noes = refl }
   asks_for_once p alt other question asked pos so binds binds = record { questions = refl; yeses = refl; noes = refl }
   asks_for_once p alt other question asked pos so sends sends = record { questions = refl; yeses = refl; noes = refl }

@@ -108,7 +108,9 @@ split = (first_kid, applies, refl)
 
 -- in the first kid a is a
 abbrev same_names : GeneralSolution
-same_names = solution_of (scene_of first_kid (in_config Left (tests_input a))) (is_a a) (with_bound [] (record (unbound (scene_of first_kid (in_config Left (tests_input a))) (is_a a)) { theta = image [] }))
+same_names =
+    solution_of (scene_of first_kid (in_config Left (tests_input a))) (is_a a)
+    (with_bound [] (record (unbound (scene_of first_kid (in_config Left (tests_input a))) (is_a a)) { theta = image [] }))
 
 respects_first : (z : ℕ → Tree) → Respects (system_of first_kid) z
 respects_first z = record {

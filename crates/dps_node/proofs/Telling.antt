@@ -42,7 +42,8 @@ module _ (names : ℕ → Type 0) (node : Node) (c : SymbolicConfig) (s : ℕ �
     used_case = from_mapped of_case list used.0 is.at.asked
 
     pub used_meets : (ts : List Tree) × MeetsBy (scene_of node c) used.0.ask s g eta ts
-    used_meets = (map (substitute (filled names node c (map of_case list) s g under)) used.1.answers, meets_here names node c (map of_case list) s g under used is (ap (λ (q : Query). q.ask.targets) used_case.2))
+    used_meets =
+        (map (substitute (filled names node c (map of_case list) s g under)) used.1.answers, meets_here names node c (map of_case list) s g under used is (ap (λ (q : Query). q.ask.targets) used_case.2))
 
     pub used_agrees : (x l : ℕ) → level_of (variables_of node) x ≡ Some l → eta x ≡ valued g s x
     used_agrees x l e = used_meets.1.agrees x l e
@@ -54,7 +55,11 @@ module _ (names : ℕ → Type 0) (node : Node) (c : SymbolicConfig) (s : ℕ �
     used_value = ap (λ (q : Query). substitute eta q.result) (sym used_case.2) ∙ sym (substitute_in_turn (valued g s) used.1.theta used.0.result)
 
 module _ (names : ℕ → Type 0) (theory : Theory) (node : Node) (c : SymbolicConfig) (s : ℕ → Tree) (g : List Tree) (accepted : IsAccepted theory) where
-  pub test_tells : (u v : Tree) (o : Option Found) → IsUnder names node c (test theory node u v) s g → IsDecided node c (test theory node u v) o → IsTermUnder theory node (valued g s) u → IsTermUnder theory node (valued g s) v → Tells o (λ used. AreEqual theory (substitute (valued g s) u) (substitute (valued g s) v)) (¬ AreEqual theory (substitute (valued g s) u) (substitute (valued g s) v))
+  pub test_tells :
+      (u v : Tree) (o : Option Found) → IsUnder names node c (test theory node u v) s g
+      → IsDecided node c (test theory node u v) o → IsTermUnder theory node (valued g s) u
+      → IsTermUnder theory node (valued g s) v
+      → Tells o (λ used. AreEqual theory (substitute (valued g s) u) (substitute (valued g s) v)) (¬ AreEqual theory (substitute (valued g s) u) (substitute (valued g s) v))
   test_tells u v (Some used) under d hu hv =
       let list : List Case = equal_cases theory (first_free node) u v in
       let k = used_case names node c s g list under used d in
@@ -76,7 +81,10 @@ module _ (names : ℕ → Type 0) (theory : Theory) (node : Node) (c : SymbolicC
       (case_holds names node c s g list (λ r. ⊤)
       ((equal_cases_cover_within theory accepted (first_free node) (valued g s) (λ x. x < first_free node) (λ x l. l) u v hu.closes hv.closes (λ x. elim [ inl k ↦ hu.closes.below x k | inr k ↦ hv.closes.below x k ])).0 e))
 
-  pub eval_tells : (u : Tree) (o : Option Found) → IsUnder names node c (eval theory node u) s g → IsDecided node c (eval theory node u) o → IsTermUnder theory node (valued g s) u → Tells o (λ used. Evaluates theory (substitute (valued g s) u) (substitute (valued g s) (value_of used))) (¬ IsMessage theory (substitute (valued g s) u))
+  pub eval_tells :
+      (u : Tree) (o : Option Found) → IsUnder names node c (eval theory node u) s g → IsDecided node c (eval theory node u) o
+      → IsTermUnder theory node (valued g s) u
+      → Tells o (λ used. Evaluates theory (substitute (valued g s) u) (substitute (valued g s) (value_of used))) (¬ IsMessage theory (substitute (valued g s) u))
   eval_tells u (Some used) under d hu =
       let list : List Case = cases theory (first_free node) u in
       let k = used_case names node c s g list under used d in
@@ -96,7 +104,10 @@ module _ (names : ℕ → Type 0) (theory : Theory) (node : Node) (c : SymbolicC
       ((cases_cover_within theory accepted (first_free node) (valued g s) (λ x. x < first_free node) (λ x l. l) u e.0 hu.closes (λ x k. hu.closes.below x k)).0 e.1))
 
 module _ (names : ℕ → Type 0) (node : Node) (c : SymbolicConfig) (s : ℕ → Tree) (g : List Tree) where
-  pub equal_tells : (t u : Tree) (o : Option Found) → IsUnder names node c (equal t u) s g → IsDecided node c (equal t u) o → ((x : ℕ) → StandsIn (var x) t ⊎ StandsIn (var x) u → (l : ℕ) × (level_of (variables_of node) x ≡ Some l)) → Tells o (λ used. substitute (valued g s) t ≡ substitute (valued g s) u) (substitute (valued g s) t ≢ substitute (valued g s) u)
+  pub equal_tells :
+      (t u : Tree) (o : Option Found) → IsUnder names node c (equal t u) s g → IsDecided node c (equal t u) o
+      → ((x : ℕ) → StandsIn (var x) t ⊎ StandsIn (var x) u → (l : ℕ) × (level_of (variables_of node) x ≡ Some l))
+      → Tells o (λ used. substitute (valued g s) t ≡ substitute (valued g s) u) (substitute (valued g s) t ≢ substitute (valued g s) u)
   equal_tells t u (Some used) under d known =
       let is : IsUsed (scene_of node c) (equal t u) used = is_used node c (equal t u) used d in
       let q : Query = record { ask = record { equations = (t, u) ∷ []; targets = [] }; result = t } in
@@ -122,7 +133,9 @@ module _ (names : ℕ → Type 0) (node : Node) (c : SymbolicConfig) (s : ℕ �
         };
       })
 
-  pub tree_false : (t u : Tree) → IsUnder names node c (tree node t) s g → IsDecided node c (tree node t) None → IsGroundUpTo AnyRigidName node.m node.know node.m u → put_entries g u ≢ substitute (valued g s) t
+  pub tree_false :
+      (t u : Tree) → IsUnder names node c (tree node t) s g → IsDecided node c (tree node t) None
+      → IsGroundUpTo AnyRigidName node.m node.know node.m u → put_entries g u ≢ substitute (valued g s) t
   tree_false t u under d ground e =
       let z : ℕ = first_free node in
       let q : Query = record { ask = record { equations = []; targets = record { name = z; level = node.m; term = t } ∷ [] }; result = leaf (var z) } in

@@ -55,7 +55,9 @@ module _ (reads : List Found → Answer → Type 0) (node : Node) where
   replies_thinned (next_asked {c = c} {all = all} {kept = kept} p ps) (one_open {s = s} {steps = steps} a) =
       one_open ((thinned_asks all kept c (undecided s) steps p).1 a)
 
-  pub thinned_reply_alike : {all kept : List (SymbolicConfig × Question)} (replies : Replies) (steps : ℕ) → AreThinned all kept → AsksEach reads node all replies steps ↔ AsksEach reads node kept replies steps
+  pub thinned_reply_alike :
+      {all kept : List (SymbolicConfig × Question)} (replies : Replies) (steps : ℕ) → AreThinned all kept
+      → AsksEach reads node all replies steps ↔ AsksEach reads node kept replies steps
   thinned_reply_alike replies steps p = (λ h. thinned_replies p h, λ h. replies_thinned p h)
 
 pub thinned_alike : (node : Node) (all kept : Question) → IsThinned all kept → HaveSameAnswers node all kept

@@ -52,7 +52,10 @@ module _ (names : ℕ → Type 0) (node : Node) (c : SymbolicConfig) (t : Tree) 
   fill n = filling names node c (tree node t) s g under n
 
   -- the one answer is the tree
-  found_is : (eta a : ℕ → Tree) (answers : List Tree) → AllZip (λ (w : Target) u. IsGroundUpTo AnyRigidName node.m node.know w.level u × (put_entries g u ≡ substitute eta w.term)) (target ∷ []) (map (substitute a) answers) → (u : Tree) × (answers ≡ u ∷ []) × IsGroundUpTo AnyRigidName node.m node.know node.m (substitute a u) × (put_entries g (substitute a u) ≡ substitute eta t)
+  found_is :
+      (eta a : ℕ → Tree) (answers : List Tree)
+      → AllZip (λ (w : Target) u. IsGroundUpTo AnyRigidName node.m node.know w.level u × (put_entries g u ≡ substitute eta w.term)) (target ∷ []) (map (substitute a) answers)
+      → (u : Tree) × (answers ≡ u ∷ []) × IsGroundUpTo AnyRigidName node.m node.know node.m (substitute a u) × (put_entries g (substitute a u) ≡ substitute eta t)
   found_is eta a [] h = absurd h
   found_is eta a (u ∷ []) h = (u, refl, h.0.0, h.0.1)
   found_is eta a (u ∷ v ∷ us) h = absurd h.1
@@ -64,9 +67,13 @@ module _ (names : ℕ → Type 0) (node : Node) (c : SymbolicConfig) (t : Tree) 
 
   under_filling : (n : ℕ) → IsGroundUpTo AnyRigidName node.m node.know node.m (substitute (fill n) (tree_of used)) × (put_entries g (substitute (fill n) (tree_of used)) ≡ substitute (valued g s) t)
   under_filling n =
-      let m = meets_by names node c (tree node t) s g under used is (fill n) (filling_here names node c (tree node t) s g under n) (filling_ground names node c (tree node t) s g under n) (valued g (fill n)) (λ y k. refl) in
+      let m =
+      meets_by names node c (tree node t) s g under used is (fill n) (filling_here names node c (tree node t) s g under n)
+      (filling_ground names node c (tree node t) s g under n) (valued g (fill n)) (λ y k. refl) in
       let eta : ℕ → Tree = λ x. substitute (valued g (fill n)) (used.1.theta x) in
-      let f = found_is eta (fill n) used.1.answers (subst (λ (q : Query). AllZip (λ (w : Target) u. IsGroundUpTo AnyRigidName node.m node.know w.level u × (put_entries g u ≡ substitute eta w.term)) q.ask.targets (map (substitute (fill n)) used.1.answers)) one m.targets) in
+      let f =
+      found_is eta (fill n) used.1.answers
+      (subst (λ (q : Query). AllZip (λ (w : Target) u. IsGroundUpTo AnyRigidName node.m node.know w.level u × (put_entries g u ≡ substitute eta w.term)) q.ask.targets (map (substitute (fill n)) used.1.answers)) one m.targets) in
       let same : tree_of used ≡ f.0 = answer_is f.0 f.1 in (
         subst (λ u. IsGroundUpTo AnyRigidName node.m node.know node.m (substitute (fill n) u)) (sym same) f.2,
         ap (λ u. put_entries g (substitute (fill n) u)) same ∙ (f.3 ∙ substitute_agrees eta (valued g s) t (λ x k. let l = known x k in m.agrees x l.0 l.1)),

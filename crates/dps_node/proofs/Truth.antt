@@ -100,7 +100,10 @@ searched scene p (an_ask {q = q} {qs = qs} {here = here} {others = others} {foun
             list = here;
             moves = first;
             finds = a;
-            all = λ s k. subst (λ (fs : List Found). Contains fs (q, s)) (sym l) (Contains-append_left (map (λ (s : GeneralSolution). (q, s)) here) others (q, s) (mapped (λ (s : GeneralSolution). (q, s)) here s k));
+            all =
+                λ s k.
+                subst (λ (fs : List Found). Contains fs (q, s)) (sym l)
+                (Contains-append_left (map (λ (s : GeneralSolution). (q, s)) here) others (q, s) (mapped (λ (s : GeneralSolution). (q, s)) here s k));
           })
       | inr k ↦
           let d = searched scene p t k in
@@ -155,7 +158,9 @@ not_plain_whole s e (open_in before after f l a n d) =
     let same : f.1 ≡ s = cc in
     λ p. n (subst IsPlain (sym same) p)
 
-pub open_is_not_plain : (node : Node) (c : SymbolicConfig) (question : Question) (s : GeneralSolution) (steps : ℕ) → Asks Answers node c question (undecided s) steps ⊎ Asks AnswersWhole node c question (undecided s) steps → ¬ IsPlain s
+pub open_is_not_plain :
+    (node : Node) (c : SymbolicConfig) (question : Question) (s : GeneralSolution) (steps : ℕ)
+    → Asks Answers node c question (undecided s) steps ⊎ Asks AnswersWhole node c question (undecided s) steps → ¬ IsPlain s
 open_is_not_plain node c question s steps h p =
     elim h [ inl k ↦ not_plain s refl k.answers p | inr k ↦ not_plain_whole s refl k.answers p ]
 
@@ -244,7 +249,10 @@ module _ (names : ℕ → Type 0) (node : Node) (c : SymbolicConfig) (question :
       others = under.solution.choice.others;
     }
 
-    pub meets_by : (base : ℕ → Tree) → ((y : ℕ) → StandsInBinding (scene_of node c) used.1 y ⊎ Any (λ t. StandsIn (var y) t) used.1.answers → base y ≡ valued g a y) → MeetsBy (scene_of node c) used.0.ask s g (λ x. substitute base (used.1.theta x)) (map (substitute a) used.1.answers)
+    pub meets_by :
+        (base : ℕ → Tree)
+        → ((y : ℕ) → StandsInBinding (scene_of node c) used.1 y ⊎ Any (λ t. StandsIn (var y) t) used.1.answers → base y ≡ valued g a y)
+        → MeetsBy (scene_of node c) used.0.ask s g (λ x. substitute base (used.1.theta x)) (map (substitute a) used.1.answers)
     meets_by base h =
         (under.solved.meet used.0 is.at.asked is.at.list is.at.moves used.1 a s base g under.solved.valid (under.solved.fits used.0 is.at.asked) is.at.finds is.at.listed no_rigid assigned instance under.valuation h).1
 
@@ -277,5 +285,7 @@ module _ (names : ℕ → Type 0) (node : Node) (c : SymbolicConfig) (question :
   pub used_holds : (used : Found) → IsUsed (scene_of node c) question used → (h : HoldsUnder (scene_of node c) question s g) × (h.query ≡ used.0)
   used_holds used is = holds_for used is filled filled_here filled_ground
 
-  pub meets_here : (used : Found) → IsUsed (scene_of node c) question used → used.0.ask.targets ≡ [] → MeetsBy (scene_of node c) used.0.ask s g (λ x. substitute (valued g s) (used.1.theta x)) (map (substitute filled) used.1.answers)
+  pub meets_here :
+      (used : Found) → IsUsed (scene_of node c) question used → used.0.ask.targets ≡ []
+      → MeetsBy (scene_of node c) used.0.ask s g (λ x. substitute (valued g s) (used.1.theta x)) (map (substitute filled) used.1.answers)
   meets_here used is none = meets_for used is filled filled_here filled_ground none

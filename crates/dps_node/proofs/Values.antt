@@ -28,7 +28,10 @@ module _ (names : ℕ → Type 0) (theory : Theory) (node : Node) (c : SymbolicC
 
   evaluates_to : (n : ℕ) → Evaluates theory (substitute (valued g s) u) (substitute (valued g (fill n)) (value_of used))
   evaluates_to n =
-      let m = meets_by names node c (eval theory node u) s g under used is (fill n) (filling_here names node c (eval theory node u) s g under n) (filling_ground names node c (eval theory node u) s g under n) (valued g (fill n)) (λ y k. refl) in
+      let m =
+      meets_by names node c (eval theory node u) s g under used is (fill n)
+      (filling_here names node c (eval theory node u) s g under n)
+      (filling_ground names node c (eval theory node u) s g under n) (valued g (fill n)) (λ y k. refl) in
       let eta : ℕ → Tree = λ x. substitute (valued g (fill n)) (used.1.theta x) in
       let k = from_mapped of_case (cases theory (first_free node) u) used.0 is.at.asked in
       (cases_cover theory accepted (first_free node) (valued g s) u (substitute (valued g (fill n)) (value_of used)) term.closes).1

@@ -25,7 +25,9 @@ pub names_are_those : (word : List Label) → counted_as as_own_name 1 (each_onc
 names_are_those word = ap (counted_as as_own_name 1) (sym (all_pass (each_once (flat_map occurrences (filter_map label_tree word)))))
 
 -- one label more
-pub labels_more_under : (f : Tree → Tree) (ls : List LabelValue) (i : ℕ) (d : LabelValue) → i < length ls → map (label_under f) (map label_of (take (i + 1) ls)) ≡ map (label_under f) (map label_of (take i ls)) ++ label_under f (label_of (get_or ls i d)) ∷ []
+pub labels_more_under :
+    (f : Tree → Tree) (ls : List LabelValue) (i : ℕ) (d : LabelValue) → i < length ls
+    → map (label_under f) (map label_of (take (i + 1) ls)) ≡ map (label_under f) (map label_of (take i ls)) ++ label_under f (label_of (get_or ls i d)) ∷ []
 labels_more_under f ls i d h =
     ap (λ xs. map (label_under f) (map label_of xs)) (one_more ls i d h)
     ∙ ap (map (label_under f)) (map-append label_of (take i ls) (get_or ls i d ∷ []))
@@ -39,7 +41,10 @@ pub not_placed : (xs : List ℕ) (y : ℕ) → position (nat_eq y) xs ≡ None �
 not_placed xs y e = at_none as_own_name 1 0 xs y (sym (position_from-zero (nat_eq y) xs) ∙ e)
 
 -- the word by its recipes, the variables that stand in them, and the names
-pub word_named : (node : Node) (recipes : List Label) (keys : List ℕ) (word : List Label) → recipes ≡ word_recipes node → keys ≡ each_once (flat_map occurrences (filter_map label_tree recipes)) → word ≡ map (label_under (substitute (counted_as as_own_name 1 keys))) recipes → word ≡ ground_word node
+pub word_named :
+    (node : Node) (recipes : List Label) (keys : List ℕ) (word : List Label) → recipes ≡ word_recipes node
+    → keys ≡ each_once (flat_map occurrences (filter_map label_tree recipes))
+    → word ≡ map (label_under (substitute (counted_as as_own_name 1 keys))) recipes → word ≡ ground_word node
 word_named node recipes keys word r k w =
     w
     ∙ ap (λ f. map (label_under (substitute f)) recipes) (ap (counted_as as_own_name 1) k ∙ names_are_those recipes)

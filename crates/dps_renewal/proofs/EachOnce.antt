@@ -53,7 +53,9 @@ once_filtered : (p : ℕ → Bool) (xs : List ℕ) → each_once (filter p xs) �
 once_filtered p [] = refl
 once_filtered p (x ∷ xs) = by (p x) refl (once_filtered p xs)
   where
-    by : (b : Bool) → p x ≡ b → each_once (filter p xs) ≡ filter p (each_once xs) → each_once (cond b (x ∷ filter p xs) (filter p xs)) ≡ cond b (x ∷ filter p (filter (other x) (each_once xs))) (filter p (filter (other x) (each_once xs)))
+    by :
+        (b : Bool) → p x ≡ b → each_once (filter p xs) ≡ filter p (each_once xs)
+        → each_once (cond b (x ∷ filter p xs) (filter p xs)) ≡ cond b (x ∷ filter p (filter (other x) (each_once xs))) (filter p (filter (other x) (each_once xs)))
     by true e h = ap (λ ys. x ∷ ys) (ap (filter (other x)) h ∙ filters_swap (other x) p (each_once xs))
     by false e h = h ∙ sym (filter_needless p (other x) (each_once xs) (λ y f. passed_is_other p x y e f))
 

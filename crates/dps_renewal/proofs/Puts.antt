@@ -50,7 +50,9 @@ put_kept z xs x pairs h o y = h y ∙ by (is_among y xs) (eqb_tells y x) refl �
     by false (inr t) e = sym (ap (λ b. wanted z b y) (t.0))
 
 -- one more is put
-pub put_more : (z : ℕ → Tree) (xs : List ℕ) (x : ℕ) (t : Tree) (pairs : List (ℕ × Tree)) → PutsFor z xs pairs → bound pairs x ≡ None → t ≡ z x → t ≢ leaf (var x) → PutsFor z (xs ++ x ∷ []) (pairs ++ (x, t) ∷ [])
+pub put_more :
+    (z : ℕ → Tree) (xs : List ℕ) (x : ℕ) (t : Tree) (pairs : List (ℕ × Tree)) → PutsFor z xs pairs → bound pairs x ≡ None
+    → t ≡ z x → t ≢ leaf (var x) → PutsFor z (xs ++ x ∷ []) (pairs ++ (x, t) ∷ [])
 put_more z xs x t pairs h none e n y = by (eqb_tells y x) ∙ sym (ap (λ b. wanted z b y) (among_more y x xs))
   where
     one : (b : Bool) → nat_eq y x ≡ b → bound ((x, t) ∷ []) y ≡ cond b (Some t) None
@@ -127,6 +129,8 @@ pub not_found : (o : Option (Bor Tree)) (bound_one : Option Tree) → is_some o 
 not_found None b n e = sym e
 not_found (Some u) b n e = cc
 
-pub put_found : (z : ℕ → Tree) (xs : List ℕ) (x : ℕ) (pairs : List (ℕ × Tree)) (o : Option (Bor Tree)) → is_some o ≡ true → option_copied o ≡ bound pairs x → PutsFor z xs pairs → PutsFor z (xs ++ x ∷ []) pairs
+pub put_found :
+    (z : ℕ → Tree) (xs : List ℕ) (x : ℕ) (pairs : List (ℕ × Tree)) (o : Option (Bor Tree)) → is_some o ≡ true
+    → option_copied o ≡ bound pairs x → PutsFor z xs pairs → PutsFor z (xs ++ x ∷ []) pairs
 put_found z xs x pairs None n e h = cc
 put_found z xs x pairs (Some u) n e h = put_before z xs x u.now pairs h (sym e)

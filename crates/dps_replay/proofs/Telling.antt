@@ -156,7 +156,9 @@ module _ (configs : List Config) where
   pub no_firsts : AreFirsts configs 0 []
   no_firsts = record { counted = refl; before = λ i h. absurd (omega (arith, h)); same = λ i h. absurd (omega (arith, h)) }
 
-  reads_first : (count : ℕ) (firsts : List ℕ) (first : ℕ) → AreFirsts configs count firsts → IsFirst configs count first → (i : ℕ) → i < count + 1 → IsFirst configs i (get_or (firsts ++ first ∷ []) i 0)
+  reads_first :
+      (count : ℕ) (firsts : List ℕ) (first : ℕ) → AreFirsts configs count firsts → IsFirst configs count first → (i : ℕ)
+      → i < count + 1 → IsFirst configs i (get_or (firsts ++ first ∷ []) i 0)
   reads_first count firsts first h k i l = elim (below_next i count l) [
     | inl b ↦ subst (IsFirst configs i) (sym (get_or-append firsts (first ∷ []) 0 i (omega (arith, b, h.counted)))) (h.before i b, h.same i b)
     | inr e ↦

@@ -166,7 +166,9 @@ module _ (scene : Scene) (ask : Ask) where
         second_from : (list rest here : List GeneralSolution) (moves before after : ℕ) → Lists scene ask (branch_of b) here before → AgendaLists scene ask (u ∷ ts) rest after
             → list ≡ here ++ rest → moves ≡ 1 + before + after → AgendaLists scene ask (t ∷ ts) list moves
         second_from list rest here moves before after g (first {others = others} {after = a} mid m p k l n) e f =
-            first {moves = moves} (here ++ mid) (1 + before + m) ((h (here ++ mid) (1 + before + m)).1 (record { here = here; others = mid; before = before; after = m; lists_first = g; lists_second = p; list_is = refl; moves_are = refl })) k
+            first {moves = moves} (here ++ mid) (1 + before + m)
+            ((h (here ++ mid) (1 + before + m)).1 (record { here = here; others = mid; before = before; after = m; lists_first = g; lists_second = p; list_is = refl; moves_are = refl }))
+            k
             (e ∙ ap (λ xs. here ++ xs) l ∙ sym (append_assoc here mid others)) (omega (arith, f, n))
 
         branched_from : (list rest : List GeneralSolution) (moves after : ℕ) → AgendaLists scene ask (fresh ∷ (u ∷ ts)) rest after → list ≡ rest → moves ≡ 1 + after

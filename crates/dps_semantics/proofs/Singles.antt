@@ -41,7 +41,9 @@ number_more processes old mid new p numbers n h k =
       parts = map-append (part_of new) numbers (n ∷ []) ∙ (ap (λ ps. ps ++ part_of new n ∷ []) (parts_stay mid new numbers has.grown h.within ∙ h.parts) ∙ ap (λ q. processes ++ q ∷ []) has.there);
     }
 
-pub number_all : (processes old new : List Process) (numbers sorted : List ℕ) → NumbersBelow processes old new numbers → IsPermutation numbers sorted → IsNonDecreasing sorted → AreNumbersOf processes old new sorted
+pub number_all :
+    (processes old new : List Process) (numbers sorted : List ℕ) → NumbersBelow processes old new numbers
+    → IsPermutation numbers sorted → IsNonDecreasing sorted → AreNumbersOf processes old new sorted
 number_all processes old new numbers sorted h p a = record {
   grown = h.grown;
   within = λ n c. h.within n (Contains-permutation sorted numbers n (IsPermutation-sym numbers sorted p) c);

@@ -29,7 +29,10 @@ start_is_open first cs e =
     subst (All IsOpen) (sym e) (All-cons IsOpen (no_terms first) [] ((λ n. leaf (var n)), All-nil (λ p. substitute (λ n. leaf (var n)) p.0 ≡ substitute (λ n. leaf (var n)) p.1)) (All-nil IsOpen))
 
 module _ (theory : Theory) where
-  pub goes_on_popped : (tasks : List Task) (before cs ds : List Choices) (items popped left : List Task) (task : Task) → items ≡ popped ++ task ∷ [] → GoesOn theory tasks before (reverse items) cs → GoesOn theory (task ∷ reverse popped) cs left ds → GoesOn theory tasks before left ds
+  pub goes_on_popped :
+      (tasks : List Task) (before cs ds : List Choices) (items popped left : List Task) (task : Task)
+      → items ≡ popped ++ task ∷ [] → GoesOn theory tasks before (reverse items) cs
+      → GoesOn theory (task ∷ reverse popped) cs left ds → GoesOn theory tasks before left ds
   goes_on_popped tasks before cs ds items popped left task e h k =
       in_turn (subst (λ ts. GoesOn theory tasks before ts cs) (task_in_front items popped task e) h) k
 
@@ -51,7 +54,10 @@ module _ (theory : Theory) where
   still_open t cs ds e h = subst (All IsOpen) (sym e) (all_mapped_within IsOpen IsOpen (λ c. with_result c t) cs h (λ c k. k))
 
   -- a root with its arguments before it
-  begun_done : (t : Tree) (r : TermRef) (tasks rest : List Task) (cs : List Choices) → ¬ IsFree theory t → seen r ≡ t → AreEvaluations tasks (arguments t) → all_done theory (tasks ++ (Apply r ∷ rest)) cs ≡ all_done theory rest (flat_map (λ (c : Choices). map (Cases.joined c) (choices theory c.next t)) cs)
+  begun_done :
+      (t : Tree) (r : TermRef) (tasks rest : List Task) (cs : List Choices) → ¬ IsFree theory t → seen r ≡ t
+      → AreEvaluations tasks (arguments t)
+      → all_done theory (tasks ++ (Apply r ∷ rest)) cs ≡ all_done theory rest (flat_map (λ (c : Choices). map (Cases.joined c) (choices theory c.next t)) cs)
   begun_done (leaf x) r tasks rest cs n e h = absurd (n tt)
   begun_done (app f ts) r tasks rest cs n e h =
       evaluations_done theory tasks (Apply r ∷ rest) (list_of ts) cs h
@@ -103,7 +109,9 @@ drop_there [] k t e = cc
 drop_there (u ∷ ts) zero t e = let same : u ≡ t = cc in ap (λ w. w ∷ ts) same
 drop_there (u ∷ ts) (suc k) t e = drop_there ts k t e
 
-pub begun_more : (t : Tree) (left k : ℕ) (old new after : List Task) (r : TermRef) → suc k ≡ left → slice_get (arguments t) k ≡ Some (seen r) → after ≡ new ++ Evaluate r ∷ [] → IsBegun t left old new → IsBegun t k old after
+pub begun_more :
+    (t : Tree) (left k : ℕ) (old new after : List Task) (r : TermRef) → suc k ≡ left → slice_get (arguments t) k ≡ Some (seen r)
+    → after ≡ new ++ Evaluate r ∷ [] → IsBegun t left old new → IsBegun t k old after
 begun_more t left k old new after r s e n b = record {
   root = b.root;
   same = b.same;
@@ -120,7 +128,9 @@ no_task (t ∷ ts) e = absurd (omega (arith, e))
 
 module _ (theory : Theory) (cs : List Choices) where
   -- the root over the last results
-  pub root_thinned : (t : Tree) (f : Sym) (n : ℕ) (ds : List Choices) → App f ≡ view_of t → n ≡ length (arguments t) → IsThinned (flat_map (applied_last theory f n) cs) ds → IsThinned (flat_map (root_applied theory t) cs) ds
+  pub root_thinned :
+      (t : Tree) (f : Sym) (n : ℕ) (ds : List Choices) → App f ≡ view_of t → n ≡ length (arguments t)
+      → IsThinned (flat_map (applied_last theory f n) cs) ds → IsThinned (flat_map (root_applied theory t) cs) ds
   root_thinned (app g ts) f n ds e k h =
       let same : f ≡ g = cc in
       subst (λ (s : Sym). IsThinned (flat_map (applied_last theory s (length (list_of ts))) cs) ds) same
@@ -136,10 +146,14 @@ module _ (theory : Theory) (cs : List Choices) where
   leaf_thinned (app g ts) h = absurd (h g refl)
   leaf_thinned (leaf x) h = subst (λ ds. IsThinned ds cs) (sym (joined_same (root_applied theory (leaf x)) cs (λ c. refl))) (unchanged cs)
 
-  pub narrowed_thinned : (f : Sym) (n : ℕ) (b : Bool) (ds : List Choices) → b ≡ true → b ≡ is_destructor theory f → AreOpen (flat_map (narrowed_last theory f n) cs) ds → IsThinned (flat_map (applied_last theory f n) cs) ds
+  pub narrowed_thinned :
+      (f : Sym) (n : ℕ) (b : Bool) (ds : List Choices) → b ≡ true → b ≡ is_destructor theory f
+      → AreOpen (flat_map (narrowed_last theory f n) cs) ds → IsThinned (flat_map (applied_last theory f n) cs) ds
   narrowed_thinned f n b ds e k h = subst (λ xs. IsThinned xs ds) (sym (narrow_done theory f n cs (sym k ∙ e))) h.thinned
 
-  pub constructed_thinned : (f : Sym) (n : ℕ) (b : Bool) (ds : List Choices) → b ≡ false → b ≡ is_destructor theory f → ds ≡ map (constructed_last f n) cs → IsThinned (flat_map (applied_last theory f n) cs) ds
+  pub constructed_thinned :
+      (f : Sym) (n : ℕ) (b : Bool) (ds : List Choices) → b ≡ false → b ≡ is_destructor theory f
+      → ds ≡ map (constructed_last f n) cs → IsThinned (flat_map (applied_last theory f n) cs) ds
   constructed_thinned f n b ds e k h = subst (λ xs. IsThinned xs ds) (h ∙ sym (construct_done theory f n cs (sym k ∙ e))) (unchanged ds)
 
   pub constructed_open : (f : Sym) (n : ℕ) (ds : List Choices) → ds ≡ map (constructed_last f n) cs → All IsOpen cs → All IsOpen ds

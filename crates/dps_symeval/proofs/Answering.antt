@@ -45,7 +45,9 @@ module _ (theory : Theory) (first : ℕ) where
   abbrev pub both_choices : Tree → Tree → List Choices
   both_choices t u = flat_map (λ (c : Choices). map (Cases.joined c) (choices theory c.next u)) (choices theory first t)
 
-  pub both_opened_by : (r s : TermRef) (t u : Tree) (cs : List Choices) → seen r ≡ t → seen s ≡ u → AreOpen (all_done theory (Evaluate r ∷ Evaluate s ∷ []) (no_terms first ∷ [])) cs → AreOpen (both_choices t u) cs
+  pub both_opened_by :
+      (r s : TermRef) (t u : Tree) (cs : List Choices) → seen r ≡ t → seen s ≡ u
+      → AreOpen (all_done theory (Evaluate r ∷ Evaluate s ∷ []) (no_terms first ∷ [])) cs → AreOpen (both_choices t u) cs
   both_opened_by r s t u cs e d h =
       subst (λ v. AreOpen (both_choices t v) cs) d
       (subst (λ v. AreOpen (both_choices v (seen s)) cs) e
@@ -84,7 +86,9 @@ module _ (theory : Theory) (first : ℕ) where
       (λ (c : Choices). length c.results ≡ 1) (choices theory first t) (one_result_each theory first t)
       (λ c e. mapped_in_turn (as_equal_case t u) (Cases.joined c) (choices theory c.next u) ∙ mapped_alike (λ (d : Choices). as_equal_case t u (Cases.joined c d)) (equal_with t c u) (choices theory c.next u) (λ d. same_case t u c d e))
 
-  pub equal_answers : (t u : Tree) (cs : List Choices) (found : List Case) → AreOpen (both_choices t u) cs → ArePossible (map (as_equal_case t u) cs) found → ArePossible (equal_cases theory first t u) found
+  pub equal_answers :
+      (t u : Tree) (cs : List Choices) (found : List Case) → AreOpen (both_choices t u) cs
+      → ArePossible (map (as_equal_case t u) cs) found → ArePossible (equal_cases theory first t u) found
   equal_answers t u cs found h k = record {
     pruned =
         pruned_in_turn
@@ -98,7 +102,10 @@ module _ (theory : Theory) (first : ℕ) where
 pub popped_last : (cs popped : List Choices) (c : Choices) → cs ≡ popped ++ c ∷ [] → reverse cs ≡ c ∷ reverse popped
 popped_last cs popped c e = ap reverse e ∙ reverse-append popped (c ∷ [])
 
-pub next_case : (t : Tree) (all : List Case) (found after : List Case) (cs popped : List Choices) (c : Choices) (case : Case) → cs ≡ popped ++ c ∷ [] → case ≡ as_case t c → after ≡ found ++ case ∷ [] → found ++ map (as_case t) (reverse cs) ≡ all → after ++ map (as_case t) (reverse popped) ≡ all
+pub next_case :
+    (t : Tree) (all : List Case) (found after : List Case) (cs popped : List Choices) (c : Choices) (case : Case)
+    → cs ≡ popped ++ c ∷ [] → case ≡ as_case t c → after ≡ found ++ case ∷ [] → found ++ map (as_case t) (reverse cs) ≡ all
+    → after ++ map (as_case t) (reverse popped) ≡ all
 next_case t all found after cs popped c case e s a h =
     ap (λ xs. xs ++ map (as_case t) (reverse popped)) a
     ∙ (append_assoc found (case ∷ []) (map (as_case t) (reverse popped))
@@ -131,7 +138,9 @@ no_choice (c ∷ cs) e = absurd (omega (arith, e))
 pub listed_all : (f : Choices → Case) (all found : List Case) (cs : List Choices) → cs ≡ [] → found ++ map f (reverse cs) ≡ all → found ≡ all
 listed_all f all found cs e h = sym (append-nil found) ∙ (sym (ap (λ xs. found ++ map f (reverse xs)) e) ∙ h)
 
-pub possible_all : (f : Choices → Case) (all found : List Case) (cs : List Choices) → cs ≡ [] → ((kept : List Case) → ArePossible (map f (reverse cs)) kept → ArePossible all (found ++ kept)) → ArePossible all found
+pub possible_all :
+    (f : Choices → Case) (all found : List Case) (cs : List Choices) → cs ≡ []
+    → ((kept : List Case) → ArePossible (map f (reverse cs)) kept → ArePossible all (found ++ kept)) → ArePossible all found
 possible_all f all found cs e h =
     subst (ArePossible all) (append-nil found)
     (h [] (subst (λ xs. ArePossible (map f (reverse xs)) []) (sym e) (record { pruned = all_seen; possible = All-nil (λ (c : Case). IsUnifiable c.equations) })))

@@ -171,7 +171,9 @@ module _ (theory : Theory) where
   split_values : (u : Tree) (us vs : Trees) → EvaluateAll theory (more u us) vs → (w : Tree) × (ws : Trees) × Evaluates theory u w × EvaluateAll theory us ws × (more w ws ≡ vs)
   split_values u us vs (a_term {v = w} {vs = ws} a r) = (w, ws, a, r, refl)
 
-  complete_leaf : (next : ℕ) (z : ℕ → Tree) (x : Leaf) (v : Tree) → IsPlain theory.shapes (variables_to z x) → Below next (leaf x) → Evaluates theory (variables_to z x) v → Covered next z (choices theory next (leaf x)) (more v none)
+  complete_leaf :
+      (next : ℕ) (z : ℕ → Tree) (x : Leaf) (v : Tree) → IsPlain theory.shapes (variables_to z x) → Below next (leaf x)
+      → Evaluates theory (variables_to z x) v → Covered next z (choices theory next (leaf x)) (more v none)
   complete_leaf next z x v p b e = record {
     used = record { equations = []; results = leaf x ∷ []; next = next };
     listed = contains_first (record { equations = []; results = leaf x ∷ []; next = next }) [];
@@ -197,7 +199,10 @@ module _ (theory : Theory) where
     results_below = All-nil (Below next);
   }
 
-  complete_more : (next : ℕ) (z : ℕ → Tree) (t : Tree) (ts : Trees) (v : Tree) (vs : Trees) (a : Covered next z (choices theory next t) (more v none)) → Covered a.used.next a.values (all_choices theory a.used.next ts) vs → Covered next z (all_choices theory next (more t ts)) (more v vs)
+  complete_more :
+      (next : ℕ) (z : ℕ → Tree) (t : Tree) (ts : Trees) (v : Tree) (vs : Trees) (a : Covered next z (choices theory next t) (more v none))
+      → Covered a.used.next a.values (all_choices theory a.used.next ts) vs
+      → Covered next z (all_choices theory next (more t ts)) (more v vs)
   complete_more next z t ts v vs a b =
       let both : Choices = Cases.joined a.used b.used in
       record {
@@ -223,12 +228,19 @@ module _ (theory : Theory) where
       }
 
   -- the case of the root is listed
-  root_listed : (next : ℕ) (f : Sym) (ts : Trees) (kind : SymKind) (d c : Choices) → HasShape theory.shapes kind f (count ts) → Contains (all_choices theory next ts) d → Contains (cond (is_destructor_kind kind) (map (reduced_by d) (rules_of theory f)) (Cases.constructed f d)) c → Contains (choices theory next (app f ts)) c
+  root_listed :
+      (next : ℕ) (f : Sym) (ts : Trees) (kind : SymKind) (d c : Choices) → HasShape theory.shapes kind f (count ts)
+      → Contains (all_choices theory next ts) d
+      → Contains (cond (is_destructor_kind kind) (map (reduced_by d) (rules_of theory f)) (Cases.constructed f d)) c
+      → Contains (choices theory next (app f ts)) c
   root_listed next f ts kind d c h l k =
       joined (applied theory f) (all_choices theory next ts) d c l
       (subst (λ w. Contains (cond w (map (reduced_by d) (rules_of theory f)) (Cases.constructed f d)) c) (sym (is_destructor_there theory f kind (count ts) h)) k)
 
-  complete_composed : (next : ℕ) (z : ℕ → Tree) (f : Sym) (ts vs : Trees) (v : Tree) → HasShape theory.shapes Constructor f (count ts) → app f vs ≡ v → Covered next z (all_choices theory next ts) vs → Covered next z (choices theory next (app f ts)) (more v none)
+  complete_composed :
+      (next : ℕ) (z : ℕ → Tree) (f : Sym) (ts vs : Trees) (v : Tree) → HasShape theory.shapes Constructor f (count ts)
+      → app f vs ≡ v → Covered next z (all_choices theory next ts) vs
+      → Covered next z (choices theory next (app f ts)) (more v none)
   complete_composed next z f ts vs v h e a =
       let both : Choices = record { equations = a.used.equations; results = app f (trees a.used.results) ∷ []; next = a.used.next } in
       record {
@@ -251,19 +263,27 @@ module _ (theory : Theory) where
 
   module _ (accepted : IsAccepted theory) where
     -- the results fit the rule
-    pub fitting : (y : ℕ → Tree) (f : Sym) (next : ℕ) (rs : List Tree) (vs : Trees) (v : Tree) (r : Reduces theory f vs v) → substitute_all y (trees rs) ≡ vs → substitute y (raised next r.rule.left) ≡ substitute r.by r.rule.left → Unifies y (fits_rule rs (rule_from next r.rule))
+    pub fitting :
+        (y : ℕ → Tree) (f : Sym) (next : ℕ) (rs : List Tree) (vs : Trees) (v : Tree) (r : Reduces theory f vs v)
+        → substitute_all y (trees rs) ≡ vs → substitute y (raised next r.rule.left) ≡ substitute r.by r.rule.left
+        → Unifies y (fits_rule rs (rule_from next r.rule))
     fitting y f next rs vs v r e d =
         let raise : ℕ → Tree = λ n. leaf (var (n + next)) in
         let left : raised next r.rule.left ≡ app f (substitute_all raise r.patterns) = ap (raised next) r.left in
         let lengths : length (list_of (trees rs)) ≡ length (list_of (substitute_all raise r.patterns)) =
-        count_results y rs vs e ∙ (sym (sym (count-replace_all (variables_to r.by) r.patterns) ∙ ap count r.matched) ∙ sym (length_count (substitute_all raise r.patterns) ∙ count-replace_all (variables_to raise) r.patterns)) in
+        count_results y rs vs e
+        ∙ (sym (sym (count-replace_all (variables_to r.by) r.patterns) ∙ ap count r.matched) ∙ sym (length_count (substitute_all raise r.patterns) ∙ count-replace_all (variables_to raise) r.patterns)) in
         let equal : substitute y (app f (trees rs)) ≡ substitute y (app f (substitute_all raise r.patterns)) =
         ap (app f) e ∙ (sym (reduces_left theory f vs v r) ∙ (sym d ∙ ap (substitute y) left)) in
-        let u : Unifies y (zip (list_of (trees rs)) (list_of (substitute_all raise r.patterns))) = (unified_arguments y (app f (trees rs)) (app f (substitute_all raise r.patterns)) (refl, lengths)).0 equal in
+        let u : Unifies y (zip (list_of (trees rs)) (list_of (substitute_all raise r.patterns))) =
+        (unified_arguments y (app f (trees rs)) (app f (substitute_all raise r.patterns)) (refl, lengths)).0 equal in
         subst (λ (xs : List Tree). Unifies y (zip xs (arguments (raised next r.rule.left)))) (listed_again rs)
         (subst (λ (t : Tree). Unifies y (zip (list_of (trees rs)) (arguments t))) (sym left) u)
 
-    complete_computed : (next : ℕ) (z : ℕ → Tree) (f : Sym) (ts vs : Trees) (v : Tree) → HasShape theory.shapes Destructor f (count ts) → Reduces theory f vs v → Covered next z (all_choices theory next ts) vs → Covered next z (choices theory next (app f ts)) (more v none)
+    complete_computed :
+        (next : ℕ) (z : ℕ → Tree) (f : Sym) (ts vs : Trees) (v : Tree) → HasShape theory.shapes Destructor f (count ts)
+        → Reduces theory f vs v → Covered next z (all_choices theory next ts) vs
+        → Covered next z (choices theory next (app f ts)) (more v none)
     complete_computed next z f ts vs v h r a =
         let rule : Rule = r.rule in
         let from : ℕ = a.used.next in

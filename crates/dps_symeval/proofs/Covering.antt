@@ -25,7 +25,10 @@ one_evaluates theory y u t (r ∷ rs) (a_term a h) = a
 
 module _ (theory : Theory) (accepted : IsAccepted theory) (next : ℕ) (z : ℕ → Tree) where
   -- a case of the term that holds
-  pub evaluates_by : (t : Tree) (from : ℕ) (y : ℕ → Tree) (c : Choices) → ClosesTerm theory next t z → ((x : ℕ) → StandsIn (var x) t → y x ≡ z x) → Contains (choices theory from t) c → Unifies y c.equations → Evaluates theory (substitute z t) (substitute y (result_of c.results t))
+  pub evaluates_by :
+      (t : Tree) (from : ℕ) (y : ℕ → Tree) (c : Choices) → ClosesTerm theory next t z
+      → ((x : ℕ) → StandsIn (var x) t → y x ≡ z x) → Contains (choices theory from t) c → Unifies y c.equations
+      → Evaluates theory (substitute z t) (substitute y (result_of c.results t))
   evaluates_by t from y c closes agree listed u =
       subst (λ w. Evaluates theory w (substitute y (result_of c.results t))) (substitute_agrees y z t agree)
       (one_evaluates theory y (substitute y t) t c.results
@@ -55,7 +58,11 @@ module _ (theory : Theory) (accepted : IsAccepted theory) (next : ℕ) (z : ℕ 
       cases_cover_within = (case_there, case_back)
 
   -- both sides of an equality, by the listed case
-  pub equal_by : (t u : Tree) (y : ℕ → Tree) (c : Case) → ClosesTerm theory next t z → ClosesTerm theory next u z → ((x : ℕ) → StandsIn (var x) t ⊎ StandsIn (var x) u → y x ≡ z x) → Contains (equal_cases theory next t u) c → Unifies y c.equations → Evaluates theory (substitute z t) (substitute y c.result) × Evaluates theory (substitute z u) (substitute y c.result)
+  pub equal_by :
+      (t u : Tree) (y : ℕ → Tree) (c : Case) → ClosesTerm theory next t z → ClosesTerm theory next u z
+      → ((x : ℕ) → StandsIn (var x) t ⊎ StandsIn (var x) u → y x ≡ z x) → Contains (equal_cases theory next t u) c
+      → Unifies y c.equations
+      → Evaluates theory (substitute z t) (substitute y c.result) × Evaluates theory (substitute z u) (substitute y c.result)
   equal_by t u y c ct cu agree listed eqs =
       let d = from_joined (λ c. map (equal_with t c u) (choices theory c.next u)) (choices theory next t) c listed in
       let m = from_mapped (equal_with t d.0 u) (choices theory d.0.next u) c d.2 in
@@ -109,7 +116,9 @@ module _ (theory : Theory) (accepted : IsAccepted theory) (next : ℕ) (z : ℕ 
   pub cases_cover : (t v : Tree) → ClosesTerm theory next t z → Evaluates theory (substitute z t) v ↔ SomeCaseHolds (cases theory next t) (λ x. StandsIn (var x) t) z (λ r. r ≡ v)
   cases_cover t v closes = cases_cover_within (λ x. StandsIn (var x) t) (λ x k. closes.below x k) t v closes (λ x k. k)
 
-  pub equal_cases_cover : (t u : Tree) → ClosesTerm theory next t z → ClosesTerm theory next u z → AreEqual theory (substitute z t) (substitute z u) ↔ SomeCaseHolds (equal_cases theory next t u) (λ x. StandsIn (var x) t ⊎ StandsIn (var x) u) z (λ r. ⊤)
+  pub equal_cases_cover :
+      (t u : Tree) → ClosesTerm theory next t z → ClosesTerm theory next u z
+      → AreEqual theory (substitute z t) (substitute z u) ↔ SomeCaseHolds (equal_cases theory next t u) (λ x. StandsIn (var x) t ⊎ StandsIn (var x) u) z (λ r. ⊤)
   equal_cases_cover t u ct cu =
       equal_cases_cover_within (λ x. StandsIn (var x) t ⊎ StandsIn (var x) u) (λ x. elim [ inl k ↦ ct.below x k | inr k ↦ cu.below x k ]) t u ct cu (λ x k. k)
 
@@ -142,13 +151,19 @@ pruned_cover all kept old z gives p = (
   λ h. record { used = h.used; listed = kept_contained p h.used h.listed; values = h.values; agree = h.agree; equations = h.equations; result = h.result },
 )
 
-pub pruned_cases_cover : (theory : Theory) (next : ℕ) (t v : Tree) (z : ℕ → Tree) (kept : List Case) → IsAccepted theory → ClosesTerm theory next t z → IsPruned (cases theory next t) kept → Evaluates theory (substitute z t) v ↔ SomeCaseHolds kept (λ x. x < next) z (λ r. r ≡ v)
+pub pruned_cases_cover :
+    (theory : Theory) (next : ℕ) (t v : Tree) (z : ℕ → Tree) (kept : List Case) → IsAccepted theory → ClosesTerm theory next t z
+    → IsPruned (cases theory next t) kept
+    → Evaluates theory (substitute z t) v ↔ SomeCaseHolds kept (λ x. x < next) z (λ r. r ≡ v)
 pruned_cases_cover theory next t v z kept accepted closes p =
     let all = cases_cover_within theory accepted next z (λ x. x < next) (λ x l. l) t v closes (λ x k. closes.below x k) in
     let left = pruned_cover (cases theory next t) kept (λ x. x < next) z (λ r. r ≡ v) p in
     (λ e. left.0 (all.0 e), λ h. all.1 (left.1 h))
 
-pub pruned_equal_cases_cover : (theory : Theory) (next : ℕ) (t u : Tree) (z : ℕ → Tree) (kept : List Case) → IsAccepted theory → ClosesTerm theory next t z → ClosesTerm theory next u z → IsPruned (equal_cases theory next t u) kept → AreEqual theory (substitute z t) (substitute z u) ↔ SomeCaseHolds kept (λ x. x < next) z (λ r. ⊤)
+pub pruned_equal_cases_cover :
+    (theory : Theory) (next : ℕ) (t u : Tree) (z : ℕ → Tree) (kept : List Case) → IsAccepted theory → ClosesTerm theory next t z
+    → ClosesTerm theory next u z → IsPruned (equal_cases theory next t u) kept
+    → AreEqual theory (substitute z t) (substitute z u) ↔ SomeCaseHolds kept (λ x. x < next) z (λ r. ⊤)
 pruned_equal_cases_cover theory next t u z kept accepted ct cu p =
     let all = equal_cases_cover_within theory accepted next z (λ x. x < next) (λ x l. l) t u ct cu (λ x. elim [ inl k ↦ ct.below x k | inr k ↦ cu.below x k ]) in
     let left = pruned_cover (equal_cases theory next t u) kept (λ x. x < next) z (λ r. ⊤) p in

@@ -63,7 +63,9 @@ filtered {A} p (a ∷ xs) x h e =
       | inr k ↦ one_more (p a) a (filter p xs) x (filtered p xs x k e)
     ]
 
-from_one : {A : Type 0} (p : A → Bool) (b : Bool) (a : A) (xs ys : List A) (x : A) → p a ≡ b → Contains (cond b (a ∷ ys) ys) x → (Contains ys x → Contains xs x × (p x ≡ true)) → Contains (a ∷ xs) x × (p x ≡ true)
+from_one :
+    {A : Type 0} (p : A → Bool) (b : Bool) (a : A) (xs ys : List A) (x : A) → p a ≡ b → Contains (cond b (a ∷ ys) ys) x
+    → (Contains ys x → Contains xs x × (p x ≡ true)) → Contains (a ∷ xs) x × (p x ≡ true)
 from_one p false a xs ys x e h f = let k = f h in (contains_later a xs x k.0, k.1)
 from_one {A} p true a xs ys x e h f =
     elim (contains_cases a ys x h) [

@@ -76,12 +76,17 @@ all_joined Q P f (x ∷ xs) k h =
     All-append P (f x) (flat_map f xs) (h x (All-head Q x xs k)) (all_joined Q P f xs (All-tail Q x xs k) h)
 
 -- a list that is mapped in place
-mapped_at : {A : Type 0} (f : A → A) (xs : List A) (i : ℕ) (v d : A) → i < length xs → v ≡ f (get_or (map f (take i xs) ++ drop i xs) i d) → set (map f (take i xs) ++ drop i xs) i v ≡ map f (take (suc i) xs) ++ drop (suc i) xs
+mapped_at :
+    {A : Type 0} (f : A → A) (xs : List A) (i : ℕ) (v d : A) → i < length xs
+    → v ≡ f (get_or (map f (take i xs) ++ drop i xs) i d)
+    → set (map f (take i xs) ++ drop i xs) i v ≡ map f (take (suc i) xs) ++ drop (suc i) xs
 mapped_at f [] i v d l e = absurd (omega (arith, l))
 mapped_at f (x ∷ xs) zero v d l e = ap (λ w. w ∷ xs) e
 mapped_at f (x ∷ xs) (suc i) v d l e = ap (λ ws. f x ∷ ws) (mapped_at f xs i v d (omega (arith, l)) e)
 
-pub mapped_next : {A : Type 0} (f : A → A) (xs ys : List A) (i j : ℕ) (v d : A) → ys ≡ map f (take i xs) ++ drop i xs → i < length xs → v ≡ f (get_or ys i d) → j ≡ suc i → set ys i v ≡ map f (take j xs) ++ drop j xs
+pub mapped_next :
+    {A : Type 0} (f : A → A) (xs ys : List A) (i j : ℕ) (v d : A) → ys ≡ map f (take i xs) ++ drop i xs → i < length xs
+    → v ≡ f (get_or ys i d) → j ≡ suc i → set ys i v ≡ map f (take j xs) ++ drop j xs
 mapped_next f xs ys i j v d e l w s =
     let there : v ≡ f (get_or (map f (take i xs) ++ drop i xs) i d) = w ∙ ap (λ zs. f (get_or zs i d)) e in
     ap (λ zs. set zs i v) e ∙ (mapped_at f xs i v d l there ∙ ap (λ k. map f (take k xs) ++ drop k xs) (sym s))

@@ -49,7 +49,10 @@ adds_both all more old new after h k = record {
 }
 
 -- choices one by one
-pub adds_more : (f : Choices → List Choices) (cs : List Choices) (i j : ℕ) (d : Choices) (old new : List Choices) → i < length cs → j ≡ suc i → d ≡ get_or cs i d → AreOpen (flat_map f (take i cs)) old → AddsOpen (f d) old new → AreOpen (flat_map f (take j cs)) new
+pub adds_more :
+    (f : Choices → List Choices) (cs : List Choices) (i j : ℕ) (d : Choices) (old new : List Choices) → i < length cs
+    → j ≡ suc i → d ≡ get_or cs i d → AreOpen (flat_map f (take i cs)) old → AddsOpen (f d) old new
+    → AreOpen (flat_map f (take j cs)) new
 adds_more f cs i j d old new l s e h k =
     let one : take j cs ≡ take i cs ++ d ∷ [] = ap (λ m. take m cs) s ∙ (take-suc cs i d l ∙ ap (λ (x : Choices). take i cs ++ x ∷ []) (sym e)) in
     let parts : flat_map f (take i cs ++ d ∷ []) ≡ flat_map f (take i cs) ++ f d = joined_append f (take i cs) (d ∷ []) ∙ ap (λ xs. flat_map f (take i cs) ++ xs) (append-nil (f d)) in
@@ -82,7 +85,8 @@ module _ (g : ℕ) where
       let there : slice_get (before ++ (r ∷ rules)) m ≡ Some r = subst (λ k. slice_get (before ++ (r ∷ rules)) k ≡ Some r) (sym e) (at_seam before r rules) in
       let longer : suc m ≡ length (before ++ r ∷ []) = omega (arith, e, length-append before (r ∷ [])) in
       let later : at_places (before ++ (r ∷ rules)) (places_from (suc m) rules g) ≡ filter (λ (r : Rule). has_root g r.left) rules =
-      subst (λ xs. at_places xs (places_from (suc m) rules g) ≡ filter (λ (r : Rule). has_root g r.left) rules) (append_assoc before (r ∷ []) rules) (at_from (before ++ r ∷ []) rules (suc m) longer) in
+      subst (λ xs. at_places xs (places_from (suc m) rules g) ≡ filter (λ (r : Rule). has_root g r.left) rules)
+      (append_assoc before (r ∷ []) rules) (at_from (before ++ r ∷ []) rules (suc m) longer) in
       one_at (before ++ (r ∷ rules)) (has_root g r.left) m r (places_from (suc m) rules g) (filter (λ (r : Rule). has_root g r.left) rules) there later
 
   pub at_all_places : (rules : List Rule) → at_places rules (places rules g) ≡ filter (λ (r : Rule). has_root g r.left) rules
@@ -100,7 +104,10 @@ at_more rules ps i r l e =
     ∙ ap (λ o. at_places rules (take i ps) ++ cons_option o []) e)
 
 module _ (n : ℕ) (c : Choices) (rules : List Rule) (ps : List ℕ) (i : ℕ) where
-  pub reduces_more : (j : ℕ) (r : Rule) → i < length ps → slice_get rules (get_or ps i 0) ≡ Some r → j ≡ suc i → (old new after : List Choices) → AddsOpen (map (reduced_last n c) (at_places rules (take i ps))) old new → AddsOpen (reduced_last n c r ∷ []) new after → AddsOpen (map (reduced_last n c) (at_places rules (take j ps))) old after
+  pub reduces_more :
+      (j : ℕ) (r : Rule) → i < length ps → slice_get rules (get_or ps i 0) ≡ Some r → j ≡ suc i → (old new after : List Choices)
+      → AddsOpen (map (reduced_last n c) (at_places rules (take i ps))) old new → AddsOpen (reduced_last n c r ∷ []) new after
+      → AddsOpen (map (reduced_last n c) (at_places rules (take j ps))) old after
   reduces_more j r l e s old new after h k =
       let made : map (reduced_last n c) (at_places rules (take j ps)) ≡ map (reduced_last n c) (at_places rules (take i ps)) ++ reduced_last n c r ∷ [] =
       ap (λ m. map (reduced_last n c) (at_places rules (take m ps))) s
@@ -147,7 +154,9 @@ zip_whole (x ∷ xs) (y ∷ ys) zero l = absurd (omega (arith, l))
 zip_whole (x ∷ xs) (y ∷ ys) (suc n) l = ap (λ ps. (x, y) ∷ ps) (zip_whole xs ys n (omega (arith, l)))
 
 -- the number after those of a rule
-pub least_step : (vs : List ℕ) (i j v next after above total : ℕ) → i < length vs → j ≡ suc i → v ≡ get_or vs i 0 → above ≡ v + next + 1 → max after (next + least_above (drop i vs)) ≡ total → max (max after above) (next + least_above (drop j vs)) ≡ total
+pub least_step :
+    (vs : List ℕ) (i j v next after above total : ℕ) → i < length vs → j ≡ suc i → v ≡ get_or vs i 0 → above ≡ v + next + 1
+    → max after (next + least_above (drop i vs)) ≡ total → max (max after above) (next + least_above (drop j vs)) ≡ total
 least_step vs i j v next after above total l s e a h =
     let first : least_above (drop i vs) ≡ max (suc v) (least_above (drop j vs)) =
     ap least_above (drop-cons vs i 0 l) ∙ ((λ k. max (suc ((sym e) k)) (least_above (drop ((sym s) k) vs)))) in
@@ -161,7 +170,10 @@ least_end vs i next after l k h =
 pub unified : (levels : List (ℕ × ℕ)) (pairs : List (Tree × Tree)) (s : List (ℕ × Tree)) → IsMgu levels pairs s → IsUnifiable pairs
 unified levels pairs s h = (image s, h.unifies)
 
-pub fits_next : (es : List (Tree × Tree)) (xs ys : List Tree) (i j : ℕ) (x y t u : Tree) (old new : List (Tree × Tree)) → j ≡ suc i → i < length xs → x ≡ get_or xs i x → slice_get ys i ≡ Some y → t ≡ x → u ≡ y → new ≡ old ++ (t, u) ∷ [] → old ≡ es ++ take i (zip xs ys) → new ≡ es ++ take j (zip xs ys)
+pub fits_next :
+    (es : List (Tree × Tree)) (xs ys : List Tree) (i j : ℕ) (x y t u : Tree) (old new : List (Tree × Tree)) → j ≡ suc i
+    → i < length xs → x ≡ get_or xs i x → slice_get ys i ≡ Some y → t ≡ x → u ≡ y → new ≡ old ++ (t, u) ∷ []
+    → old ≡ es ++ take i (zip xs ys) → new ≡ es ++ take j (zip xs ys)
 fits_next es xs ys i j x y t u old new s l e h a b n o =
     let pair : (t, u) ∷ [] ≡ (x, y) ∷ [] = λ k. (a k, b k) ∷ [] in
     n ∙ ((λ k. o k ++ pair k) ∙ (append_assoc es (take i (zip xs ys)) ((x, y) ∷ []) ∙ ap (λ ps. es ++ ps) (sym (ap (λ m. take m (zip xs ys)) s ∙ zip_at xs ys i x y x l e h))))

@@ -34,7 +34,9 @@ length_count none = refl
 length_count (more t ts) = omega (arith, length_count ts)
 
 -- a rule for the symbol
-pub root_there : (theory : Theory) (f : Sym) (l : Tree) → has_root f.number l ≡ true → HasDestructorRoot theory.shapes l → (ps : Trees) × (l ≡ app f ps) × HasShape theory.shapes Destructor f (count ps)
+pub root_there :
+    (theory : Theory) (f : Sym) (l : Tree) → has_root f.number l ≡ true → HasDestructorRoot theory.shapes l
+    → (ps : Trees) × (l ≡ app f ps) × HasShape theory.shapes Destructor f (count ps)
 root_there theory f (leaf x) e h = absurd h
 root_there theory f (app g ps) e h =
     let n : g.number ≡ f.number = eqb-true g.number f.number e in
@@ -57,23 +59,33 @@ module _ (theory : Theory) where
   name_or_variable y (entry n) b p = b
   name_or_variable y (rigid n) b p = b
 
-  joined_evaluate : (y : ℕ → Tree) (u : Tree) (us : Trees) (rs ss : List Tree) → EvaluateAll theory (more u none) (substitute_all y (trees rs)) → EvaluateAll theory us (substitute_all y (trees ss)) → EvaluateAll theory (more u us) (substitute_all y (trees (rs ++ ss)))
+  joined_evaluate :
+      (y : ℕ → Tree) (u : Tree) (us : Trees) (rs ss : List Tree)
+      → EvaluateAll theory (more u none) (substitute_all y (trees rs)) → EvaluateAll theory us (substitute_all y (trees ss))
+      → EvaluateAll theory (more u us) (substitute_all y (trees (rs ++ ss)))
   joined_evaluate y u us [] ss h k = elim h [ ]
   joined_evaluate y u us (r ∷ []) ss (a_term a no_terms) k = a_term a k
   joined_evaluate y u us (r ∷ q ∷ rs) ss (a_term a h) k = elim h [ ]
 
   module _ (accepted : IsAccepted theory) where
     -- a rule that fits the results
-    pub reduces : (y : ℕ → Tree) (f : Sym) (next : ℕ) (r : Rule) (results : List Tree) → HasRule theory r → has_root f.number r.left ≡ true → ((ps : Trees) → r.left ≡ app f ps → length results ≡ count ps) → Unifies y (fits_rule results (rule_from next r)) → Reduces theory f (substitute_all y (trees results)) (substitute y (raised next r.right))
+    pub reduces :
+        (y : ℕ → Tree) (f : Sym) (next : ℕ) (r : Rule) (results : List Tree) → HasRule theory r
+        → has_root f.number r.left ≡ true → ((ps : Trees) → r.left ≡ app f ps → length results ≡ count ps)
+        → Unifies y (fits_rule results (rule_from next r))
+        → Reduces theory f (substitute_all y (trees results)) (substitute y (raised next r.right))
     reduces y f next r results l e len u =
         let root = root_there theory f r.left e (accepted.root r l) in
         let by : ℕ → Tree = λ n. y (n + next) in
         let raise : ℕ → Tree = λ n. leaf (var (n + next)) in
         let left : raised next r.left ≡ app f (substitute_all raise root.0) = ap (raised next) root.1 in
-        let u2 : Unifies y (zip (list_of (trees results)) (arguments (raised next r.left))) = subst (λ (rs : List Tree). Unifies y (zip rs (arguments (raised next r.left)))) (sym (listed_again results)) u in
+        let u2 : Unifies y (zip (list_of (trees results)) (arguments (raised next r.left))) =
+        subst (λ (rs : List Tree). Unifies y (zip rs (arguments (raised next r.left)))) (sym (listed_again results)) u in
         let u3 : Unifies y (zip (list_of (trees results)) (list_of (substitute_all raise root.0))) = subst (λ (t : Tree). Unifies y (zip (list_of (trees results)) (arguments t))) left u2 in
-        let lengths : length (list_of (trees results)) ≡ length (list_of (substitute_all raise root.0)) = ap length (listed_again results) ∙ (len root.0 root.1 ∙ sym (length_count (substitute_all raise root.0) ∙ count-replace_all (variables_to raise) root.0)) in
-        let equal : app f (substitute_all y (trees results)) ≡ substitute y (app f (substitute_all raise root.0)) = (unified_arguments y (app f (trees results)) (app f (substitute_all raise root.0)) (refl, lengths)).1 u3 in
+        let lengths : length (list_of (trees results)) ≡ length (list_of (substitute_all raise root.0)) =
+        ap length (listed_again results) ∙ (len root.0 root.1 ∙ sym (length_count (substitute_all raise root.0) ∙ count-replace_all (variables_to raise) root.0)) in
+        let equal : app f (substitute_all y (trees results)) ≡ substitute y (app f (substitute_all raise root.0)) =
+        (unified_arguments y (app f (trees results)) (app f (substitute_all raise root.0)) (refl, lengths)).1 u3 in
         let turned : substitute y (app f (substitute_all raise root.0)) ≡ app f (substitute_all by root.0) = substitute_in_turn y raise (app f root.0) in
         let both : app f (substitute_all y (trees results)) ≡ app f (substitute_all by root.0) = equal ∙ turned in
         record {
@@ -113,7 +125,9 @@ module _ (theory : Theory) where
         let fits = all_right (λ p. substitute y p.0 ≡ substitute y p.1) d.equations (fits_rule d.results (rule_from d.next r)) u2 in
         let here : HasShape theory.shapes Destructor f (count (substitute_all y ts)) = subst (HasShape theory.shapes Destructor f) (sym (count-replace_all (variables_to y) ts)) shape in
         let len : (ps : Trees) → r.left ≡ app f ps → length d.results ≡ count ps =
-        λ ps e. count_evaluated_results y (substitute_all y ts) d.results all ∙ one_arity theory.shapes f Destructor (count (substitute_all y ts)) (count ps) here (subst (λ t. HasDestructorRoot theory.shapes t) e (accepted.root r l.0)) in
+        λ ps e.
+        count_evaluated_results y (substitute_all y ts) d.results all
+        ∙ one_arity theory.shapes f Destructor (count (substitute_all y ts)) (count ps) here (subst (λ t. HasDestructorRoot theory.shapes t) e (accepted.root r l.0)) in
         subst (λ (w : Choices). EvaluateAll theory (more (substitute y (app f ts)) none) (substitute_all y (trees w.results))) (sym m.2)
         (a_term (reduced (substitute_all y (trees d.results)) here all (reduces y f d.next r d.results l.0 l.1 len fits)) no_terms)
 

@@ -20,7 +20,9 @@ use Rattle.dps_symeval.proofs.Sound.{length_count}
 use Rattle.dps_symeval.proofs.Mapping.{joined_in_turn, joined_mapped, mapped_joined, mapped_in_turn, mapped_alike, joined_alike, joined_within, joined_single, joined_same, all_mapped, all_mapped_within, all_joined}
 
 -- one record from its parts
-choices_are : (es es2 : List (Tree × Tree)) (rs rs2 : List Tree) (next : ℕ) → es ≡ es2 → rs ≡ rs2 → ◌≡◌ {A = Choices} (record { equations = es; results = rs; next = next }) (record { equations = es2; results = rs2; next = next })
+choices_are :
+    (es es2 : List (Tree × Tree)) (rs rs2 : List Tree) (next : ℕ) → es ≡ es2 → rs ≡ rs2
+    → ◌≡◌ {A = Choices} (record { equations = es; results = rs; next = next }) (record { equations = es2; results = rs2; next = next })
 choices_are es es2 rs rs2 next e d = λ i. record { equations = e i; results = d i; next = next }
 
 any : {A : Type 0} → (xs : List A) → All (λ (x : A). ⊤) xs
@@ -59,7 +61,8 @@ module _ (theory : Theory) where
       All-cons (λ (d : Choices). length d.results ≡ 0) (record { equations = []; results = []; next = next }) [] refl
       (All-nil (λ (d : Choices). length d.results ≡ 0))
   as_many_results next (more t ts) =
-      all_joined (λ (d : Choices). length d.results ≡ 1) (λ (d : Choices). length d.results ≡ count (more t ts)) (λ (c : Choices). map (Cases.joined c) (all_choices theory c.next ts)) (choices theory next t)
+      all_joined (λ (d : Choices). length d.results ≡ 1) (λ (d : Choices). length d.results ≡ count (more t ts))
+      (λ (c : Choices). map (Cases.joined c) (all_choices theory c.next ts)) (choices theory next t)
       (one_result_each next t)
       (λ c e. all_mapped_within (λ (d : Choices). length d.results ≡ count ts) (λ (d : Choices). length d.results ≡ count (more t ts)) (Cases.joined c) (all_choices theory c.next ts)
       (as_many_results c.next ts) (λ d k. omega (arith, length-append c.results d.results, e, k)))
@@ -173,7 +176,9 @@ module _ (theory : Theory) where
       ∙ sym (mapped_in_turn (Cases.joined c) (Cases.joined d) (all_choices theory d.next ts)))
       ∙ sym (mapped_joined (Cases.joined c) (λ (d : Choices). map (Cases.joined d) (all_choices theory d.next ts)) (choices theory c.next t))))
 
-  pub evaluations_done : (tasks rest : List Task) (ts : List Tree) (cs : List Choices) → AreEvaluations tasks ts → all_done theory (tasks ++ rest) cs ≡ all_done theory rest (flat_map (with_all (trees ts)) cs)
+  pub evaluations_done :
+      (tasks rest : List Task) (ts : List Tree) (cs : List Choices) → AreEvaluations tasks ts
+      → all_done theory (tasks ++ rest) cs ≡ all_done theory rest (flat_map (with_all (trees ts)) cs)
   evaluations_done [] rest [] cs h = ap (all_done theory rest) (sym (none_more cs))
   evaluations_done [] rest (t ∷ ts) cs h = absurd h
   evaluations_done (Evaluate r ∷ tasks) rest [] cs h = absurd h

@@ -89,7 +89,9 @@ possible_cases t {all} {kept} h = record {
 }
 
 -- there is one list of possible cases
-pruned_alike : {all kept others : List Case} → IsPruned all kept → All (λ (c : Case). IsUnifiable c.equations) kept → IsPruned all others → All (λ (c : Case). IsUnifiable c.equations) others → kept ≡ others
+pruned_alike :
+    {all kept others : List Case} → IsPruned all kept → All (λ (c : Case). IsUnifiable c.equations) kept → IsPruned all others
+    → All (λ (c : Case). IsUnifiable c.equations) others → kept ≡ others
 pruned_alike all_seen a all_seen b = refl
 pruned_alike (keeps {c} {kept} p) a (keeps {kept = others} q) b =
     let P : Case → Type 0 = λ c. IsUnifiable c.equations in

@@ -9,12 +9,16 @@ loop-end-init c = rw c.in_ok-pairs.ensures.items (all_left c.args.ends.items c.a
 
 pub partner-requires-clause-place : goal.partner-requires-clause-place
 partner-requires-clause-place c =
-    let left = place_left c.args.ends.items c.args.others.now c.args.partners.now c.loop-end.left.items c.pop.new.self.items c.in-Some.end c.loop-end.pairs.items c.loop-end.invariant c.in-Some.ensures.items in
+    let left =
+    place_left c.args.ends.items c.args.others.now c.args.partners.now c.loop-end.left.items c.pop.new.self.items
+    c.in-Some.end c.loop-end.pairs.items c.loop-end.invariant c.in-Some.ensures.items in
     omega (arith, left, c.requires.counted, c.len-in-Some.ensures, c.pop.new.self.ok)
 
 pub partner-requires-clause-partner : goal.partner-requires-clause-partner
 partner-requires-clause-partner c =
-    let left = place_left c.args.ends.items c.args.others.now c.args.partners.now c.loop-end.left.items c.pop.new.self.items c.in-Some.end c.loop-end.pairs.items c.loop-end.invariant c.in-Some.ensures.items in
+    let left =
+    place_left c.args.ends.items c.args.others.now c.args.partners.now c.loop-end.left.items c.pop.new.self.items
+    c.in-Some.end c.loop-end.pairs.items c.loop-end.invariant c.in-Some.ensures.items in
     c.requires.within c.len-in-Some.result (omega (arith, left, c.len-in-Some.ensures, c.pop.new.self.ok))
 
 pub loop-end-preserved : goal.loop-end-preserved

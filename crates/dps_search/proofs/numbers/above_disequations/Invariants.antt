@@ -7,4 +7,7 @@ use Rattle.dps_solver.specs.declared.scene.Disequation.{Disequation}
 use Rattle.dps_search.proofs.numbers.above_disequations.Given as goal
 
 abbrev pub invariant-loop-disequation : goal.invariant-loop-disequation
-invariant-loop-disequation l = max l.above (least_above (flat_map (λ (d : Disequation). disequation_numbers (disequation_of d)) (drop l.disequation-index l.disequations))) ≡ max l.next (least_above (flat_map (λ (d : Disequation). disequation_numbers (disequation_of d)) l.disequations))
+invariant-loop-disequation l =
+    max l.above
+    (least_above (flat_map (λ (d : Disequation). disequation_numbers (disequation_of d)) (drop l.disequation-index l.disequations)))
+    ≡ max l.next (least_above (flat_map (λ (d : Disequation). disequation_numbers (disequation_of d)) l.disequations))

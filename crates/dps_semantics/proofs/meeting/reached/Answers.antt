@@ -20,7 +20,8 @@ pub after_meetings-requires-clause-numbers : goal.after_meetings-requires-clause
 after_meetings-requires-clause-numbers c =
     let found = c.loop-index.found in
     let i = c.loop-index.index in
-    c.loop-index.invariant.numbers c.bag.result.now (subst (λ (b : List ℕ). Contains found b) (sym c.bag.ensures.there) (Contains-get_or found i [] (omega (arith, c.if-index-len.false, c.len.ensures.count))))
+    c.loop-index.invariant.numbers c.bag.result.now
+    (subst (λ (b : List ℕ). Contains found b) (sym c.bag.ensures.there) (Contains-get_or found i [] (omega (arith, c.if-index-len.false, c.len.ensures.count))))
 
 pub loop-index-preserved : goal.loop-index-preserved
 loop-index-preserved c =

@@ -6,4 +6,6 @@ use Rattle.dps_semantics.proofs.Ends.{SomeTrace}
 use Rattle.dps_semantics.proofs.running.runs.Given as goal
 
 abbrev pub invariant-loop-index : goal.invariant-loop-index
-invariant-loop-index l = AreJust (EndsIn l.problem l.fn.side (take l.index (map label_of l.word))) l.ends.items × SomeTrace l.problem l.fn.side (take l.index (map label_of l.word)) × EachStandsOnce l.ends.items
+invariant-loop-index l =
+    AreJust (EndsIn l.problem l.fn.side (take l.index (map label_of l.word))) l.ends.items
+    × SomeTrace l.problem l.fn.side (take l.index (map label_of l.word)) × EachStandsOnce l.ends.items

@@ -16,5 +16,7 @@ returns-clause-once c =
     let bags = c.args.bags.now in
     let frame = c.args.frame.now in
     let configs = c.loop-index.configs.items in
-    let all = taken_all (λ (bs : List (List ℕ)). AreConfigsOf parts bs frame configs) bags c.loop-index.index (omega (arith, c.loop-index-test.false, c.len-index-end.ensures.count)) c.loop-index.invariant in
+    let all =
+    taken_all (λ (bs : List (List ℕ)). AreConfigsOf parts bs frame configs) bags c.loop-index.index
+    (omega (arith, c.loop-index-test.false, c.len-index-end.ensures.count)) c.loop-index.invariant in
     configs_once parts c.requires.parts bags frame configs c.len-index-end.ensures.kept c.requires.numbers all

@@ -21,4 +21,5 @@ loop-place-preserved c =
 
 pub returns : goal.returns
 returns c =
-    reduces_all c.args.arity c.args.choice.now c.args.rules.now c.args.places.now c.loop-place.place-index c.args.found.now.items c.loop-place.found.items c.loop-place-test.false c.loop-place.invariant
+    reduces_all c.args.arity c.args.choice.now c.args.rules.now c.args.places.now c.loop-place.place-index
+    c.args.found.now.items c.loop-place.found.items c.loop-place-test.false c.loop-place.invariant

@@ -89,7 +89,8 @@ invariant_of-self-2 c =
     let rows_are : slice_set all t (row c.index_mut.result.now.path Posted) ≡ with_mark rows t h.0 Posted ++ kids h.0 0 n =
     grown rows c.make_room.new.rows.items all (slice_set all t (row c.index_mut.result.now.path Posted)) t w n h.0 new c.index.result.now c.index_mut.result.now h.1 first c.in_ok-kids.ensures
     c.make_room.ensures.rows more here refl in
-    let count : c.self.inside.open_paths - 1 + c.from.result + 1 ≡ c.self.inside.open_paths + n = omega (arith, opens-set rows t held (row h.0 Posted) h.1, c.self.invariant.0.counted, c.from.ensures) in
+    let count : c.self.inside.open_paths - 1 + c.from.result + 1 ≡ c.self.inside.open_paths + n =
+    omega (arith, opens-set rows t held (row h.0 Posted) h.1, c.self.invariant.0.counted, c.from.ensures) in
     let enough : 2 * (length rows + n) + 1 ≤ vec_capacity c.push_reserved.new.self = omega (arith, c.in_ok-make_room.ensures.done, c.push_reserved.ensures.capacity) in
     let added : c.push_reserved.new.self.items ≡ journal ++ entry.Posted w t (result.Kids n) ∷ [] = c.push_reserved.ensures.items
     ∙ ap (λ (x : List Entry). x ++ entry.Posted w t (result.Kids n) ∷ []) c.make_room.ensures.journal in

@@ -69,7 +69,8 @@ overflow_sub-self-2 c =
     let h : HasMark (the_view c.self.inside) t (Held w) = subst (λ (x : Ledger). HasMark x t (Held w)) (sym c.self.view_is) c.requires in
     let same : c.index_mut.result.now ≡ row h.0 (Held w) = c.index_mut.ensures.value ∙ get_or_from_slice_get rows t (row h.0 (Held w)) c.index_mut.result.now h.1 in
     let is : IsCut (with_mark rows t h.0 Posted) c.self.inside.next.items t c.drop_behind-dropped.new.rows.items c.drop_behind-dropped.new.next.items c.drop_behind-dropped.result =
-    cut_at rows c.drop_behind-dropped.new.rows.items c.self.inside.next.items c.drop_behind-dropped.new.next.items t w c.drop_behind-dropped.result h.0 c.index_mut.result.now same c.drop_behind-dropped.ensures in
+    cut_at rows c.drop_behind-dropped.new.rows.items c.self.inside.next.items c.drop_behind-dropped.new.next.items t w
+    c.drop_behind-dropped.result h.0 c.index_mut.result.now same c.drop_behind-dropped.ensures in
     omega (arith, is.counts, opens-set rows t (row h.0 (Held w)) (row h.0 Posted) h.1, c.self.invariant.0.counted)
 
 pub invariant_of-self : goal.invariant_of-self
@@ -85,7 +86,8 @@ invariant_of-self c =
     let new = c.drop_behind-dropped.new.rows.items in
     let cut = c.drop_behind-dropped.new.next.items in
     let left = c.self.inside.open_paths - 1 - c.drop_behind-dropped.result in
-    let is : IsCut (with_mark rows t h.0 Posted) next t new cut c.drop_behind-dropped.result = cut_at rows new next cut t w c.drop_behind-dropped.result h.0 c.index_mut.result.now same c.drop_behind-dropped.ensures in
+    let is : IsCut (with_mark rows t h.0 Posted) next t new cut c.drop_behind-dropped.result =
+    cut_at rows new next cut t w c.drop_behind-dropped.result h.0 c.index_mut.result.now same c.drop_behind-dropped.ensures in
     let after : new ≡ map (dropped_after h.0) (with_mark rows t h.0 Posted) = cut_is rows new next cut t w c.drop_behind-dropped.result h.0 h.1 c.self.invariant.1 is in
     let count : left ≡ opens new = omega (arith, is.counts, opens-set rows t (row h.0 (Held w)) (row h.0 Posted) h.1, c.self.invariant.0.counted) in
     let ordered : IsLine new cut = line-stop rows new next cut t w c.drop_behind-dropped.result h.0 h.1 is after c.self.invariant.1 in (
@@ -105,7 +107,8 @@ returns c = λ path e.
     let next = c.self.inside.next.items in
     let new = c.drop_behind-dropped.new.rows.items in
     let cut = c.drop_behind-dropped.new.next.items in
-    let is : IsCut (with_mark rows t path Posted) next t new cut c.drop_behind-dropped.result = cut_at rows new next cut t w c.drop_behind-dropped.result path c.index_mut.result.now same c.drop_behind-dropped.ensures in
+    let is : IsCut (with_mark rows t path Posted) next t new cut c.drop_behind-dropped.result =
+    cut_at rows new next cut t w c.drop_behind-dropped.result path c.index_mut.result.now same c.drop_behind-dropped.ensures in
     let after : new ≡ map (dropped_after path) (with_mark rows t path Posted) = cut_is rows new next cut t w c.drop_behind-dropped.result path here c.self.invariant.1 is in
     let now : Ledger = ledger_of (book_of new (Some (t, c.args.kind)) c.self.inside.halted) (length (slice_set c.self.inside.holds.items w None))
     c.push_reserved.new.self.items in
