@@ -42,7 +42,7 @@ impl Bags {
         }
     }
 
-    /// The one bag.
+    /// The one bag. Its numbers are in ascending order.
     pub fn of(alloc: Global, bag: Vec<usize>) -> Result<Bags, NoMemory>
         requires { IsNonDecreasing bag.items }
         ensures { IfOk result (λ bags. (b : List ℕ) → Contains bags b ↔ (b ≡ bag.items)) }
@@ -52,7 +52,8 @@ impl Bags {
         Ok(bags)
     }
 
-    /// Adds a bag at the end, where it is new: it is compared with those of its digest alone.
+    /// Adds a bag at the end, where it is new: it is compared with those of its digest alone. Its numbers are in ascending
+    /// order.
     pub fn add(&mut self, alloc: Global, bag: Vec<usize>) -> Result<(), NoMemory>
         requires { IsNonDecreasing bag.items }
         ensures added { OnOk result ((b : List ℕ) → Contains self.new b ↔ (Contains self.old b ⊎ (b ≡ bag.items))) }

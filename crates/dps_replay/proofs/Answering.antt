@@ -1,5 +1,5 @@
 -- What two lists of ends say of the labels of a side.
-use Rattle.std.proofs.Common.{◌≡◌, ℕ, suc, ◌+◌, ◌<◌, ◌≤◌, ◌^◌, List, [], ◌∷◌, ◌++◌, length, get_or, take, drop, refl, sym, ◌∙◌, ap, subst, arith}
+use Rattle.std.proofs.Common.{◌≡◌, ℕ, suc, ◌+◌, ◌<◌, ◌≤◌, ◌^◌, List, [], ◌∷◌, length, take, drop, refl, sym, ◌∙◌, ap, subst, arith}
 use Rattle.std.specs.Prelude.{◌↔◌, Contains}
 use Rattle.std.proofs.lemmas.List.{get_or_default, take-append-drop}
 use Rattle.std.proofs.lemmas.List.Elements.{Contains-get_or}
@@ -13,8 +13,7 @@ use Rattle.dps_process.specs.Steps.{Config, Label, inputs, outputs, overhears, A
 use Rattle.dps_process.specs.Traces.{IsTraceOf, IsAttack}
 use Rattle.dps_process.specs.Lawful.{AreLawfulLabels}
 use Rattle.dps_process.specs.Laws.{BagsReflexive, PrefixesAreTraces, TracesEndInFrames, TracesHaveLawfulLabels}
-use Rattle.dps_semantics.specs.Settling.{IsOneOf, IsInSomeOrder}
-use Rattle.dps_semantics.specs.Words.{EndsIn, AreEnds, IsStuckAt}
+use Rattle.dps_semantics.specs.Words.{AreEnds, IsStuckAt}
 use Rattle.dps_semantics.specs.Once.{config_at}
 use Rattle.dps_static.specs.declared.Test.{Test}
 use Rattle.dps_static.specs.declared.Comparison.TheVariants.{Same, Differ}

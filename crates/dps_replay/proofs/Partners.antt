@@ -10,7 +10,7 @@ use Rattle.dps_theory.specs.Theory.{Theory}
 use Rattle.dps_process.specs.Steps.{Config}
 use Rattle.dps_semantics.specs.Once.{config_at}
 use Rattle.dps_static.specs.declared.Test.{Test}
-use Rattle.dps_replay.specs.Matching.{frame_at, AreAlike, TellApart, IsPartnerAt, HavePartners, AreWithin, pair_at, ArePaired, ArePairs}
+use Rattle.dps_replay.specs.Matching.{frame_at, AreAlike, TellApart, HavePartners, AreWithin, pair_at, ArePaired, ArePairs}
 
 same_or_later : (from i : ℕ) → from ≤ i → (from ≡ i) ⊎ (from + 1 ≤ i)
 same_or_later zero zero h = inl refl

@@ -1,5 +1,5 @@
 -- Tests that tell a frame from others, and partners of ends.
-use Rattle.std.proofs.Common.{◌≡◌, ℕ, zero, suc, ◌+◌, ◌<◌, ◌≤◌, List, [], ◌∷◌, ◌++◌, length, get_or, refl, sym, ◌∙◌, ap, subst, inl, inr, arith, Some, None, length-append}
+use Rattle.std.proofs.Common.{◌≡◌, ℕ, zero, suc, ◌+◌, ◌<◌, List, [], ◌∷◌, ◌++◌, length, get_or, refl, sym, ◌∙◌, ap, subst, inl, inr, arith, Some, length-append}
 use Rattle.std.specs.Prelude.{◌⊎◌, Contains, slice_get}
 use Rattle.std.proofs.lemmas.List.Elements.{Contains-append_left, Contains-push, Contains-push_cases}
 use Rattle.std.proofs.Math.ListN.{get_or-append}
@@ -7,13 +7,11 @@ use Rattle.std.proofs.lemmas.List.{get_or_default}
 use Rattle.std.proofs.Math.Seq.{get_or-append_seam}
 use Rattle.dps_terms.specs.Tree.{Tree}
 use Rattle.dps_theory.specs.Theory.{Theory}
-use Rattle.dps_theory.specs.Frames.{AreStaticallyEquivalent}
 use Rattle.dps_process.specs.Steps.{Config}
 use Rattle.dps_static.specs.declared.Test.{Test}
 use Rattle.dps_static.specs.declared.Comparison.{Comparison}
-use Rattle.dps_static.specs.declared.Comparison.TheVariants.{Same, Differ}
+use Rattle.dps_static.specs.declared.Comparison.TheVariants.{Differ}
 use Rattle.dps_static.specs.Answer.{IsAnswerUnder}
-use Rattle.dps_semantics.specs.Once.{config_at}
 use Rattle.dps_replay.specs.Answers.{AreDistinct}
 use Rattle.dps_replay.specs.Collecting.{IsAdded}
 use Rattle.dps_replay.specs.Matching.{frame_at, AreAlike, AreToldBy, IsFrameAt, IsFirst, AreFirsts, TellApart, IsPartnerAt, HavePartners}

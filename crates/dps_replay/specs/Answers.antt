@@ -5,7 +5,7 @@ use Rattle.dps_branch.specs.Sides.{opposite}
 use Rattle.dps_theory.specs.Frames.{AreStaticallyEquivalent}
 use Rattle.dps_process.specs.Problem.{Problem}
 use Rattle.dps_process.specs.Steps.{Config, Label, AreOneBag}
-use Rattle.dps_process.specs.Traces.{IsTraceOf, IsAttack}
+use Rattle.dps_process.specs.Traces.{IsAttack}
 use Rattle.dps_semantics.specs.Settling.{IsInSomeOrder}
 use Rattle.dps_semantics.specs.Words.{EndsIn, IsStuckAt}
 use Rattle.dps_static.specs.declared.Test.{Test}

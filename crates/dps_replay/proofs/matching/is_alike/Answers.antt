@@ -1,7 +1,6 @@
-use Rattle.std.proofs.Common.{◌≡◌, List, get_or, subst}
+use Rattle.std.proofs.Common.{List, get_or, subst}
 use Rattle.dps_terms.specs.Tree.{Tree}
 use Rattle.dps_static.specs.Answer.{IsAnswerUnder}
-use Rattle.dps_replay.specs.Matching.{frame_at}
 use Rattle.dps_replay.proofs.Telling.{same_told, answer_told, read_frame}
 use Rattle.dps_replay.proofs.matching.is_alike.Goals as goal
 

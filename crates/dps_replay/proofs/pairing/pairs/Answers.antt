@@ -1,5 +1,4 @@
-use Rattle.std.proofs.Common.{◌≡◌, ℕ, ◌<◌, List, length, get_or, subst, arith}
-use Rattle.dps_process.specs.Steps.{Config}
+use Rattle.std.proofs.Common.{◌≡◌, ℕ, length, get_or, subst, arith}
 use Rattle.dps_semantics.specs.Once.{config_at}
 use Rattle.dps_replay.proofs.Partners.{all_left, place_left, popped}
 use Rattle.dps_replay.proofs.pairing.pairs.Goals as goal

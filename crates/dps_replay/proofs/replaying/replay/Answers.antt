@@ -1,4 +1,4 @@
-use Rattle.std.proofs.Common.{List, length, map, sym, subst, arith}
+use Rattle.std.proofs.Common.{List, map, subst, arith}
 use Rattle.dps_bags.proofs.Holding.{mapped_length}
 use Rattle.dps_branch.specs.declared.Side.{Side}
 use Rattle.dps_branch.specs.Sides.{opposite}
@@ -8,7 +8,7 @@ use Rattle.dps_process.specs.Steps.{Config}
 use Rattle.dps_semantics.specs.declared.outcome.Runs.{Runs}
 use Rattle.dps_semantics.specs.Answers.{IsAnswer}
 use Rattle.dps_replay.specs.Ends.{HasAllEnds}
-use Rattle.dps_replay.specs.Matching.{AreLevel, IsVerdict}
+use Rattle.dps_replay.specs.Matching.{IsVerdict}
 use Rattle.dps_replay.proofs.Answering.{are_level, all_ends, answered}
 use Rattle.dps_replay.proofs.replaying.replay.Goals as goal
 
