@@ -1,6 +1,6 @@
 -- Two terms that need no unifier.
-use Rattle.std.proofs.Common.{◌≡◌, ℕ, List, [], ◌∷◌, drop, Option, Some, None, refl, sym, ◌∙◌, ap, get_or, arith}
-use Rattle.std.proofs.lemmas.List.Elements.{All-nil, All-cons, All-head}
+use Rattle.std.proofs.Common.{◌≡◌, ℕ, List, [], ◌∷◌, drop, Option, Some, None, refl, sym, ap, get_or, arith}
+use Rattle.std.proofs.lemmas.List.Elements.{All-nil, All-cons}
 use Rattle.dps_terms.specs.Tree.{var, entry, Tree, leaf}
 use Rattle.dps_terms.specs.Replace.{substitute, numbered}
 use Rattle.dps_terms.specs.Bindings.{bound, image}

@@ -1,7 +1,7 @@
 -- Entries that are passed, one after the other.
 use Rattle.std.proofs.Common.{◌≡◌, ℕ, ◌+◌, ◌<◌, List, length, refl, subst, arith}
 use Rattle.std.specs.Prelude.{◌↔◌}
-use Rattle.dps_solver.specs.Scene.{Scene, Ask}
+use Rattle.dps_solver.specs.Scene.{Scene}
 use Rattle.dps_solver.specs.Search.{GeneralSolution}
 use Rattle.dps_search.specs.declared.task.Task.{Task}
 use Rattle.dps_search.specs.declared.task.Turn.TheVariants.{Moved}

@@ -6,7 +6,6 @@ use Rattle.dps_terms.specs.declared.borrowed.TermView.{TermView}
 use Rattle.dps_terms.specs.declared.borrowed.TermView.TheVariants.{App, Public, Private, Var, Ax, Entry, Rigid}
 use Rattle.dps_terms.specs.Tree.{public, private, var, ax, entry, rigid, Tree, leaf, app}
 use Rattle.dps_terms.specs.Replace.{substitute}
-use Rattle.dps_terms.specs.Bindings.{bound, image}
 use Rattle.dps_terms.specs.Views.{view_of}
 use Rattle.dps_bindings.proofs.Roots.{variable_is, root_stays}
 use Rattle.dps_solver.specs.Scene.{System}

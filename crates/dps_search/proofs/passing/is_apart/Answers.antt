@@ -1,4 +1,4 @@
-use Rattle.std.proofs.Common.{◌≡◌, List, ◌∷◌, [], ap, sym, ◌∙◌, subst₂}
+use Rattle.std.proofs.Common.{List, ◌∷◌, [], ap, sym, ◌∙◌, subst₂}
 use Rattle.dps_terms.specs.Replace.{numbered, substitute}
 use Rattle.dps_terms.specs.Tree.{entry, Tree, leaf}
 use Rattle.dps_terms.specs.Bindings.{image}

@@ -1,4 +1,4 @@
-use Rattle.std.proofs.Common.{rules, ◌≡◌, ◌<◌, ◌+◌, length, refl, arith}
+use Rattle.std.proofs.Common.{rules, ◌<◌, length, refl, arith}
 use Rattle.dps_search.specs.declared.task.Task.{Task}
 use Rattle.dps_search.specs.Code.{scene_of}
 use Rattle.dps_search.proofs.Passed.{none_passed, one_passed}
