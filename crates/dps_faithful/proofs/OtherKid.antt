@@ -35,7 +35,9 @@ use Rattle.dps_node.specs.Node.{SymbolicConfig, Node, variables_of, system_of, s
 use Rattle.dps_renewal.specs.Numbering.{is_among}
 use Rattle.dps_node.specs.Splits.{binding, new_variables, new_level, IsConfigUnder, Applies, exclusion, excluded, IsSplit}
 use Rattle.dps_node.specs.Meaning.{IsTreeOver, IsSolutionOf, IsInstance, IsClosedInMeaning}
-use Rattle.dps_node.specs.Invariant.{messages_in, HasNoOwnName, IsNoOwnName, IsOfNode, IsNodeTree, IsMessageLeaf, IsNodeMessage, IsNodePart, IsEntryRecipeLeaf, IsPatternLeafOf, IsNodeDisequation, known_level, HasLevels, HasOlderParts, HasFacts, IsSound}
+use Rattle.dps_node.specs.Invariant.{messages_in, HasNoOwnName, IsNoOwnName, IsOfNode, IsNodeTree, IsMessageLeaf, IsNodeMessage}
+use Rattle.dps_node.specs.Invariant.{IsNodePart, IsEntryRecipeLeaf, IsPatternLeafOf, IsNodeDisequation, known_level, HasLevels}
+use Rattle.dps_node.specs.Invariant.{HasOlderParts, HasFacts, IsSound}
 use Rattle.dps_faithful.specs.Laws.{HasLowNumbers, BindsTrees}
 use Rattle.dps_faithful.proofs.Lists.{among_true, in_range, from_range}
 use Rattle.dps_faithful.proofs.Levels.{level_is_listed, listed_level, level_out}

@@ -9,7 +9,12 @@ use Rattle.dps_node.specs.Node.{SymbolicConfig, Node, at_count, scene_of}
 use Rattle.dps_node.specs.Questions.{Found, Answers, AnswersWhole, all_decided, divided}
 use Rattle.dps_node.proofs.Once.{finds_all_once, answers_once, whole_once, asks_each_once}
 use Rattle.dps_node.specs.Outcome.{Outcome, changed, kids, Pass, passes, ends, InTurn, through, next, stops}
-use Rattle.dps_node.specs.Knowing.{pass_of_equal, Compares, compares, open_compare, Finding, unknown, known, splits, as_finding, found_trees, found_values, Examines, is_new, is_compared, open_tree, after_handle, with_handle, with_entry, with_own_name, with_composition, entry_value, each_tree_once, after_trees, HasComposition, Composes, recorded_before, is_composed_of, open_composition, fact_of, after_item, UsesFact, never, sometimes, always, open_success, last_message, UsesFound, fact, splits_on, Computes, computes, each_rule, Knows, by_handle, by_composition, by_rule, by_closing, is_true}
+use Rattle.dps_node.specs.Knowing.{pass_of_equal, Compares, compares, open_compare, Finding, unknown, known, splits, as_finding}
+use Rattle.dps_node.specs.Knowing.{found_trees, found_values, Examines, is_new, is_compared, open_tree, after_handle, with_handle}
+use Rattle.dps_node.specs.Knowing.{with_entry, with_own_name, with_composition, entry_value, each_tree_once, after_trees, HasComposition}
+use Rattle.dps_node.specs.Knowing.{Composes, recorded_before, is_composed_of, open_composition, fact_of, after_item, UsesFact, never}
+use Rattle.dps_node.specs.Knowing.{sometimes, always, open_success, last_message, UsesFound, fact, splits_on, Computes, computes}
+use Rattle.dps_node.specs.Knowing.{each_rule, Knows, by_handle, by_composition, by_rule, by_closing, is_true}
 
 -- the same, but for the kids of a split, of which the count is the same
 abbrev pub SameOutcome : Outcome → Outcome → Type 0

@@ -5,7 +5,9 @@ use Rattle.dps_solver.specs.Scene.{Scene}
 use Rattle.dps_solver.specs.Search.{GeneralSolution}
 use Rattle.dps_solver.proofs.Once.{finds_once}
 use Rattle.dps_node.specs.Node.{SymbolicConfig, Node, scene_of}
-use Rattle.dps_node.specs.Questions.{Question, Found, FindsAll, no_ask, an_ask, Answer, decided, undecided, IsPlainlyFound, Answers, holds, fails, open_at, AnswersWhole, holds_by_all, fails_by_all, open_in, Asks, Replies, divided, after_answer, AsksEach, none_left, one_decided, one_open}
+use Rattle.dps_node.specs.Questions.{Question, Found, FindsAll, no_ask, an_ask, Answer, decided, undecided, IsPlainlyFound, Answers, holds}
+use Rattle.dps_node.specs.Questions.{fails, open_at, AnswersWhole, holds_by_all, fails_by_all, open_in, Asks, Replies, divided}
+use Rattle.dps_node.specs.Questions.{after_answer, AsksEach, none_left, one_decided, one_open}
 
 pub finds_all_once : (scene : Scene) {qs : Question} {l k : List Found} {n m : ℕ} → FindsAll scene qs l n → FindsAll scene qs k m → (l ≡ k) × (n ≡ m)
 finds_all_once scene no_ask no_ask = (refl, refl)

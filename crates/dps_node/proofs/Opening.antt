@@ -14,10 +14,12 @@ use Rattle.dps_theory.specs.Theory.{Rule}
 use Rattle.dps_solver.specs.Scene.{Ask}
 use Rattle.dps_solver.specs.declared.scene.Target.{Target}
 use Rattle.dps_solver.specs.Solutions.{Respects}
-use Rattle.dps_solver.specs.Search.{GeneralSolution, IsPlain, Branch, solution_of, with_tree, with_bound, lowered, lowers, composed, composes, uses, AreNewlyBound, gives, goes_on, no_way, leads, ends, unbound, Finds, starts}
+use Rattle.dps_solver.specs.Search.{GeneralSolution, IsPlain, Branch, solution_of, with_tree, with_bound, lowered, lowers, composed}
+use Rattle.dps_solver.specs.Search.{composes, uses, AreNewlyBound, gives, goes_on, no_way, leads, ends, unbound, Finds, starts}
 use Rattle.dps_solver.proofs.Rows.{newly_none}
 use Rattle.dps_node.specs.Node.{SymbolicConfig, scene_of, system_of}
-use Rattle.dps_node.specs.Questions.{Query, Found, tree, composition, instance, success, FindsAll, no_ask, an_ask, decided, Answers, holds, fails, AnswersWhole, fails_by_all, Asks, all_decided, AsksEach, none_left, one_decided}
+use Rattle.dps_node.specs.Questions.{Query, Found, tree, composition, instance, success, FindsAll, no_ask, an_ask, decided, Answers, holds}
+use Rattle.dps_node.specs.Questions.{fails, AnswersWhole, fails_by_all, Asks, all_decided, AsksEach, none_left, one_decided}
 use Rattle.dps_node.specs.Outcome.{changed, passes, ends as has_outcome, through, next, stops}
 use Rattle.dps_node.specs.Knowing.{in_each, Examines, is_new, unknown, composing, Composes, is_composed_of, succeeding, UsesFact, always, UsesFound, fact, Computes, computes, by_rule}
 use Rattle.dps_node.proofs.Entries.{no_equation, newly}

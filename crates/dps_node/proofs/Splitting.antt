@@ -11,7 +11,8 @@ use Rattle.dps_unify.proofs.Trees.{in_leaf}
 use Rattle.dps_process.specs.Process.{output, nil}
 use Rattle.dps_solver.specs.Scene.{Ask}
 use Rattle.dps_solver.specs.Solutions.{identity, IsMatchedUnder, Respects}
-use Rattle.dps_solver.specs.Search.{GeneralSolution, IsPlain, Branch, bindings_of, solution_of, AreNewlyBound, with_bound, composed, composes, gives, drops, goes_on, no_way, leads, unbound, Finds, starts}
+use Rattle.dps_solver.specs.Search.{GeneralSolution, IsPlain, Branch, bindings_of, solution_of, AreNewlyBound, with_bound, composed}
+use Rattle.dps_solver.specs.Search.{composes, gives, drops, goes_on, no_way, leads, unbound, Finds, starts}
 use Rattle.dps_solver.proofs.Bindings.{binds_left, binds_none}
 use Rattle.dps_solver.proofs.Rows.{newly_one, newly_none}
 use Rattle.dps_node.specs.Node.{SymbolicConfig, Node, scene_of, system_of, at_count}

@@ -21,7 +21,9 @@ use Rattle.dps_directions.specs.Directions.{StandsInBinding, IsAssignment, IsIns
 use Rattle.dps_symeval.proofs.Listed.{contains_none, contains_first, contains_later, contains_cases, mapped, from_mapped}
 use Rattle.dps_node.specs.Node.{SymbolicConfig, Node, numbered_from, label_trees, variables_of, scene_of}
 use Rattle.dps_renewal.specs.Numbering.{is_among}
-use Rattle.dps_node.specs.Questions.{Query, Question, Found, first_free, FindsAll, no_ask, an_ask, Answer, decided, undecided, IsPlainlyFound, Answers, holds, fails, open_at, AnswersWhole, holds_by_all, fails_by_all, open_in, Asks}
+use Rattle.dps_node.specs.Questions.{Query, Question, Found, first_free, FindsAll, no_ask, an_ask, Answer, decided, undecided}
+use Rattle.dps_node.specs.Questions.{IsPlainlyFound, Answers, holds, fails, open_at, AnswersWhole, holds_by_all, fails_by_all, open_in}
+use Rattle.dps_node.specs.Questions.{Asks}
 use Rattle.dps_node.specs.Truth.{HoldsUnder, IsDecided, IsUnder}
 
 -- levels of variables

@@ -1,5 +1,6 @@
 -- Numbers that are taken each once, piece by piece.
-use Rattle.std.proofs.Common.{◌≡◌, ℕ, ◌+◌, ◌<◌, ◌≤◌, List, [], ◌∷◌, ◌++◌, length, get_or, take, drop, add-one, drop-cons, Bool, true, false, cond, not, filter, map, ◌||◌, nat_eq, refl, ap, sym, ◌∙◌, inl, inr}
+use Rattle.std.proofs.Common.{◌≡◌, ℕ, ◌+◌, ◌<◌, ◌≤◌, List, [], ◌∷◌, ◌++◌, length, get_or, take, drop, add-one, drop-cons, Bool, true}
+use Rattle.std.proofs.Common.{false, cond, not, filter, map, ◌||◌, nat_eq, refl, ap, sym, ◌∙◌, inl, inr}
 use Rattle.std.specs.Prelude.{◌==◌, ◌⊎◌, ◌≢◌}
 use Rattle.std.specs.List.{list_any, flat_map}
 use Rattle.std.proofs.Math.Dec.{eqb}

@@ -1,5 +1,6 @@
 -- The least level, found pair by pair.
-use Rattle.std.proofs.Common.{◌≡◌, ℕ, ◌<◌, ◌≤◌, ◌+◌, Bool, true, false, cond, List, [], ◌∷◌, Option, Some, None, length, get_or, drop, filter, map, min, refl, ap, sym, ◌∙◌, add-one, drop-cons, unwrap_or, arith}
+use Rattle.std.proofs.Common.{◌≡◌, ℕ, ◌<◌, ◌≤◌, ◌+◌, Bool, true, false, cond, List, [], ◌∷◌, Option, Some, None, length, get_or, drop}
+use Rattle.std.proofs.Common.{filter, map, min, refl, ap, sym, ◌∙◌, add-one, drop-cons, unwrap_or, arith}
 use Rattle.std.proofs.lemmas.List.{drop_all}
 use Rattle.dps_renewal.specs.Numbering.{least}
 use Rattle.dps_renewal.specs.Putting.{least_with}

@@ -7,7 +7,8 @@ use Rattle.dps_terms.specs.Bindings.{image}
 use Rattle.dps_unify.specs.Unifier.{IsNotUnifiable}
 use Rattle.dps_solver.specs.Scene.{System, Scene, Ask}
 use Rattle.dps_solver.specs.declared.scene.Target.{Target}
-use Rattle.dps_solver.specs.Search.{GeneralSolution, Branch, Way, follow, use_entry, compose, composed, entry_equation, with_bound, uses, Leads, follows, lowers, composes, Lists, gives, drops, goes_on, ListsBy, solution_of, bindings_of}
+use Rattle.dps_solver.specs.Search.{GeneralSolution, Branch, Way, follow, use_entry, compose, composed, entry_equation, with_bound, uses}
+use Rattle.dps_solver.specs.Search.{Leads, follows, lowers, composes, Lists, gives, drops, goes_on, ListsBy, solution_of, bindings_of}
 use Rattle.dps_solver.specs.Solutions.{Respects}
 use Rattle.dps_solver.proofs.Once.{none_is_some}
 use Rattle.dps_search.specs.declared.scene.Mgs.{Mgs}

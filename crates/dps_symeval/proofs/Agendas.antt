@@ -16,7 +16,8 @@ use Rattle.dps_symeval.specs.Cases.{Choices, choices, is_destructor}
 use Rattle.dps_symeval.specs.Cases as Cases
 use Rattle.dps_symeval.specs.declared.agenda.Task.{Task}
 use Rattle.dps_symeval.specs.declared.agenda.Task.TheVariants.{Evaluate, Apply}
-use Rattle.dps_symeval.specs.Agenda.{no_terms, with_result, root_applied, applied_last, constructed_last, narrowed_last, all_done, weight, weights, IsThinned, IsOpen, AreOpen, GoesOn, IsFree, AreEvaluations, IsBegun}
+use Rattle.dps_symeval.specs.Agenda.{no_terms, with_result, root_applied, applied_last, constructed_last, narrowed_last, all_done, weight}
+use Rattle.dps_symeval.specs.Agenda.{weights, IsThinned, IsOpen, AreOpen, GoesOn, IsFree, AreEvaluations, IsBegun}
 use Rattle.dps_symeval.proofs.Mapping.{joined_same, all_mapped_within}
 use Rattle.dps_symeval.proofs.Thinning.{unchanged, in_turn, all_done_thinned}
 use Rattle.dps_symeval.proofs.Tasks.{with_all, free_done, construct_done, narrow_done, evaluate_root, evaluations_done, trees_again}

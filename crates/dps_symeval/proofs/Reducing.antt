@@ -1,5 +1,6 @@
 -- What the rules of a destructor make of choices, rule by rule.
-use Rattle.std.proofs.Common.{◌≡◌, ℕ, zero, suc, ◌+◌, ◌<◌, ◌≤◌, ◌^◌, List, [], ◌∷◌, ◌++◌, length, map, take, drop, get_or, slice_get, Some, filter, refl, sym, ◌∙◌, ap, subst, arith, append_assoc, length-append, Bool, true, false, cond}
+use Rattle.std.proofs.Common.{◌≡◌, ℕ, zero, suc, ◌+◌, ◌<◌, ◌≤◌, ◌^◌, List, [], ◌∷◌, ◌++◌, length, map, take, drop, get_or, slice_get, Some}
+use Rattle.std.proofs.Common.{filter, refl, sym, ◌∙◌, ap, subst, arith, append_assoc, length-append, Bool, true, false, cond}
 use Rattle.std.specs.Prelude.{All, Contains, max, min}
 use Rattle.std.specs.List.{flat_map, cons_option, zip}
 use Rattle.std.proofs.Math.Seq.{take-suc, drop-cons}

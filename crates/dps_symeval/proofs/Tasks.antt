@@ -17,7 +17,8 @@ use Rattle.dps_symeval.specs.declared.agenda.Task.{Task}
 use Rattle.dps_symeval.specs.declared.agenda.Task.TheVariants.{Evaluate, Apply}
 use Rattle.dps_symeval.specs.Agenda.{last, before_last, with_result, only_last, among_others, applied_last, constructed_last, narrowed_last, done, all_done, AreEvaluations, NoDestructor, IsFree}
 use Rattle.dps_symeval.proofs.Sound.{length_count}
-use Rattle.dps_symeval.proofs.Mapping.{joined_in_turn, joined_mapped, mapped_joined, mapped_in_turn, mapped_alike, joined_alike, joined_within, joined_single, joined_same, all_mapped, all_mapped_within, all_joined}
+use Rattle.dps_symeval.proofs.Mapping.{joined_in_turn, joined_mapped, mapped_joined, mapped_in_turn, mapped_alike, joined_alike}
+use Rattle.dps_symeval.proofs.Mapping.{joined_within, joined_single, joined_same, all_mapped, all_mapped_within, all_joined}
 
 -- one record from its parts
 choices_are :

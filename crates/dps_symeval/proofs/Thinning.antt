@@ -9,7 +9,8 @@ use Rattle.dps_terms.specs.Replace.{substitute}
 use Rattle.dps_terms.specs.Seen.{seen}
 use Rattle.dps_unify.specs.Unifier.{IsNotUnifiable}
 use Rattle.dps_theory.specs.Theory.{Theory}
-use Rattle.dps_symeval.specs.Cases.{Case, Choices, IsUnifiable, IsPruned, all_seen, keeps, leaves_out, as_case, is_destructor, reduced_by, rules_of, applied, constructed, choices, fits_rule, rule_from, ArePossible}
+use Rattle.dps_symeval.specs.Cases.{Case, Choices, IsUnifiable, IsPruned, all_seen, keeps, leaves_out, as_case, is_destructor, reduced_by}
+use Rattle.dps_symeval.specs.Cases.{rules_of, applied, constructed, choices, fits_rule, rule_from, ArePossible}
 use Rattle.dps_symeval.specs.Cases as Cases
 use Rattle.dps_symeval.specs.declared.agenda.Task.{Task}
 use Rattle.dps_symeval.specs.declared.agenda.Task.TheVariants.{Evaluate, Apply}
