@@ -1,5 +1,5 @@
 //! Outcomes of texts.
-ghost use Rattle.std.specs.Prelude.{◌≡◌, ◌++◌, ◌∷◌, ℕ, List, All, IfOk, IfSome, IfNone, IsSomeAnd, IsTrue, ◌↔◌, Some, codes};
+ghost use Rattle.std.specs.Prelude.{◌≡◌, ◌++◌, ◌∷◌, ℕ, List, Option, All, IfOk, IfSome, IfNone, IsSomeAnd, IsTrue, ◌↔◌, Some, codes};
 ghost use Rattle.dps_branch.specs.declared.Side.{Side};
 ghost use Rattle.dps_trace.specs.declared.model.ModelName.{ModelName};
 ghost use Rattle.dps_trace.specs.Text.{line};
@@ -154,7 +154,8 @@ fn accepted_like(format: Format, bytes: &[u8]) -> Option<Outcome>
 fn no_memory_like(format: Format, bytes: &[u8]) -> Option<Outcome>
     ensures { FindsResult format results.NoMemory bytes.now result }
 {
-    let _behind = (format, bytes);
+    let _format = format;
+    let _bytes = bytes;
     Some(Outcome::NoMemory)
 }
 
@@ -253,7 +254,7 @@ fn is_of_format(format: Format, model: Option<ModelName>) -> bool
 }
 
 /// Whether the last byte is a newline.
-#[tactic(auto, using(crate::proofs::LongRead::for_ends_line))]
+#[tactic(auto, using(crate::proofs::LastByte::for_ends_line))]
 fn ends_line(text: &[u8]) -> bool
     ensures { IsTrue result ↔ EndsLine text.now }
 {
@@ -263,7 +264,7 @@ fn ends_line(text: &[u8]) -> bool
     }
 }
 
-#[tactic(auto, using(crate::proofs::LongRead::for_refused_like))]
+#[tactic(auto, using(crate::proofs::RefusedRead::for_refused_like))]
 fn refused_like(alloc: Global, format: Format, bytes: &[u8]) -> Result<Option<Outcome>, AllocError>
     ensures { IfOk result (FindsResult format results.Refused bytes.now) }
 {
@@ -288,7 +289,7 @@ fn refused_like(alloc: Global, format: Format, bytes: &[u8]) -> Result<Option<Ou
     }
 }
 
-#[tactic(auto, using(crate::proofs::LongRead::for_attack_like))]
+#[tactic(auto, using(crate::proofs::TestsRead::for_attack_like))]
 fn attack_like(alloc: Global, format: Format, bytes: &[u8]) -> Result<Option<Outcome>, AllocError>
     ensures { IfOk result (FindsResult format results.Attack bytes.now) }
 {

@@ -1,0 +1,9 @@
+pub mod FieldsRead
+pub mod ReportRead
+pub mod Only
+pub mod ShortRead
+pub mod LongRead
+pub mod RefusedRead
+pub mod TestsRead
+pub mod LastByte
+pub mod Printed
