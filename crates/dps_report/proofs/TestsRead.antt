@@ -37,6 +37,9 @@ cut_word x text front rest cut h = stands_there x front rest (subst (IsWithout x
 
 -- tests
 
+pub false_is_no_answer : IsTrue false → ⊥
+false_is_no_answer e = cc
+
 v_is_e : ◌≡◌ {A = ℕ} 118 101 → ⊥
 v_is_e e = omega (arith, e)
 
@@ -286,7 +289,6 @@ module _ (format : Format) (bytes : List ℕ) where
           }
 
 pub ruleset for_is_word = (word_made, cut_word)
-pub ruleset for_is_test = (value_recipe, value_is_test, equal_recipes, equal_is_test, no_equal, neither_test)
 pub ruleset for_read_tests = (none_read, one_more, no_field_of_test, no_test, all_read, shorter)
 pub ruleset for_tests_like = (first_format, no_count, tests_read)
 pub ruleset for_attack_like = (attack_unnamed, no_attack_side, no_tests, attack_read)

@@ -162,7 +162,8 @@ fn spent(
     let node = node.text(alloc)?;
     let head = first_line(format);
     let model = model_line(model);
-    format!(in alloc; "{head}\nresult: spent\n{model}node: {node}\nsteps: {steps}\n")
+    let text = format!(in alloc; "{head}\nresult: spent\n{model}node: {node}\nsteps: {steps}\n")?;
+    Ok(text)
 }
 
 /// The text of an attack that was replayed.

@@ -313,7 +313,10 @@ fn tests_like(alloc: Global, format: Format, bytes: &[u8]) -> Result<Option<Text
     match format {
         Format::First => Ok(Some(Texts::new(alloc))),
         Format::Second => match read_number(bytes, b"tests: ") {
-            Some((_, rest)) => read_tests(alloc, rest),
+            Some((_, rest)) => {
+                let tests = read_tests(alloc, rest)?;
+                Ok(tests)
+            }
             None => Ok(None),
         },
     }
@@ -343,15 +346,16 @@ fn read_test(alloc: Global, bytes: &[u8]) -> Result<Option<Text>, AllocError>
     ensures found { IfOk result (λ found. IfSome found (λ text. (text ≡ bytes.now) × IsTestText bytes.now)) }
     ensures only { IsTestText bytes.now → IfOk result (λ found. found ≡ Some bytes.now) }
 {
-    if is_test(bytes) {
-        read_text(alloc, bytes)
-    } else {
-        Ok(None)
+    if !is_test(bytes) {
+        return Ok(None);
+    }
+    match read_text(alloc, bytes)? {
+        Some(text) => Ok(Some(text)),
+        None => Ok(None),
     }
 }
 
 /// `value R` or `equal R S`.
-#[tactic(auto, using(crate::proofs::TestsRead::for_is_test))]
 fn is_test(test: &[u8]) -> bool
     ensures { IsTrue result ↔ IsTest test.now }
 {
@@ -372,5 +376,11 @@ fn is_test(test: &[u8]) -> bool
 fn is_word(text: &[u8]) -> bool
     ensures { IsTrue result ↔ IsWord text.now }
 {
-    !text.is_empty() && cut(b' ', text).is_none() && cut(b'\n', text).is_none()
+    if text.is_empty() {
+        return false;
+    }
+    if cut(b' ', text).is_some() {
+        return false;
+    }
+    cut(b'\n', text).is_none()
 }
