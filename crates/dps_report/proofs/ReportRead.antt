@@ -157,6 +157,10 @@ other_report bytes behind text format found same finds is differs outcome path r
     let found_is : found ≡ outcome = cc in
     absurd (differs (is ∙ ap (report_text format) found_is ∙ ap (λ f. report_text f outcome) s.0 ∙ sym r.1.text))
 
+-- a text that is printed is that of its outcome
+pub printed_again : (outcome : Outcome) (bytes : List ℕ) → IsFitting Second outcome → bytes ≡ report_text Second outcome → IsReport outcome bytes
+printed_again outcome bytes fit e = (Second, record { fitting = fit; text = e })
+
 pub ruleset for_read_format = (format_read, no_format)
 pub ruleset for_read_result = (no_result, result_unnamed, result_read)
 pub ruleset for_read_named = (unnamed, no_name, name_read)

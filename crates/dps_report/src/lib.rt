@@ -18,7 +18,7 @@ pub use format::Format;
 pub use outcome::{Outcome, StopName};
 pub use parts::{Text, Texts};
 pub use printing::{MEMORY_TEXT, ReportText, ShortText, text};
-pub use reading::read_report;
+pub use reading::{read_again, read_report};
 
 /// Outcomes may be handed to other threads and be shared with them.
 pub fn are_shared() {

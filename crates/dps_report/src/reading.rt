@@ -7,12 +7,13 @@ ghost use Rattle.dps_report.specs.declared.outcome.Outcome.{Outcome};
 ghost use Rattle.dps_report.specs.declared.results.ResultName.{ResultName};
 ghost use Rattle.dps_report.specs.declared.results.ResultName.TheVariants as results;
 ghost use Rattle.dps_report.specs.declared.format.Format.{Format};
-ghost use Rattle.dps_report.specs.Outcomes.{Names, HasPath, IsTest, IsTestText, IsWord, EndsLine, HasTraceLines};
+ghost use Rattle.dps_report.specs.declared.format.Format.TheVariants.{Second};
+ghost use Rattle.dps_report.specs.Outcomes.{IsFitting, Names, HasPath, IsTest, IsTestText, IsWord, EndsLine, HasTraceLines};
 ghost use Rattle.dps_report.specs.Reports.{IsReport, first_line, if_named, result_text};
 ghost use Rattle.dps_report.specs.Finding.{FindsResult, FindsOutcome, FindsTests, FindsListedTests};
 
 use crate::fields::{read_field, read_number, read_place, read_short, read_text};
-use crate::printing::text_in;
+use crate::printing::{text, text_in};
 use crate::results::{ResultName, result_named};
 use crate::{Format, Outcome, StopName, Text, Texts};
 use dps_path::read_path;
@@ -33,12 +34,27 @@ pub fn read_report(alloc: Global, bytes: &[u8]) -> Result<Option<Outcome>, Alloc
     let Some(outcome) = outcome_like(alloc, format, rest)? else {
         return Ok(None);
     };
-    let text = text_in(alloc, format, &outcome)?;
-    if text.bytes() == bytes {
+    let printed = text_in(alloc, format, &outcome)?;
+    if printed.bytes() == bytes {
         Ok(Some(outcome))
     } else {
         Ok(None)
     }
+}
+
+/// The outcome that is read of an outcome's text in format 2: the same.
+///
+/// Conditions: it names its model where it has one, its numbers are below the bounds of texts, and its parts are texts of
+/// their kinds. It fails for want of memory alone.
+#[tactic(auto, using(crate::proofs::ReportRead::printed_again))]
+pub fn read_again(alloc: Global, outcome: &Outcome) -> Result<Option<Outcome>, AllocError>
+    requires fitting { IsFitting Second outcome.now }
+    requires path { HasPath outcome.now }
+    ensures { IfOk result (λ found. found ≡ Some outcome.now) }
+{
+    let printed = text(alloc, outcome)?;
+    let found = read_report(alloc, printed.bytes())?;
+    Ok(found)
 }
 
 /// The format of the first line, and what comes behind.

@@ -227,6 +227,7 @@ fn gen_word(words: &[String]) -> Result<Asked, u32>
         [_, word] => match made_number(word) {
             Some(number) => Ok(Asked {
                 command: Command::Gen,
+                model: None,
                 number,
             }),
             None => Err(2),
