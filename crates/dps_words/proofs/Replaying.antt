@@ -197,24 +197,24 @@ no_replay_file (v ∷ []) l b = none_behind None (string_bytes v ∷ []) (ap (λ
 no_replay_file (v ∷ u ∷ ws) l b = absurd (omega arith)
 
 pub replay_option :
-    (ws : List (String Global)) (f : String Global) → 2 ≤ length ws → BeginsWith (codes "replay") (texts ws) → f ≡ get_or ws 1 f → string_bytes f ≢ codes "--semantics" → IsOption (string_bytes f)
+    (ws : List (String Global)) (f g : String Global) → 2 ≤ length ws → BeginsWith (codes "replay") (texts ws) → f ≡ get_or ws 1 f → g ≡ get_or ws 1 g → string_bytes g ≢ codes "--semantics" → IsOption (string_bytes f)
     → IsFirstWrong (texts ws) 2
-replay_option [] f l b i n o = absurd (omega arith)
-replay_option (v ∷ []) f l b i n o = absurd (omega arith)
-replay_option (v ∷ u ∷ ws) f l b i n o =
+replay_option [] f g l b i j n o = absurd (omega arith)
+replay_option (v ∷ []) f g l b i j n o = absurd (omega arith)
+replay_option (v ∷ u ∷ ws) f g l b i j n o =
     option_behind None (string_bytes v ∷ string_bytes u ∷ texts ws) (string_bytes u) (texts ws)
     (ap (λ x. x ∷ string_bytes u ∷ texts ws) (first_is (codes "replay") (string_bytes v) (string_bytes u ∷ texts ws) b))
-    (subst (λ (x : String Global). string_bytes x ≢ codes "--semantics") i n) (subst (λ (x : String Global). IsOption (string_bytes x)) i o)
+    (subst (λ (x : String Global). string_bytes x ≢ codes "--semantics") j n) (subst (λ (x : String Global). IsOption (string_bytes x)) i o)
 
 pub no_trace_word :
-    (ws : List (String Global)) (f : String Global) → length ws ≡ 2 → BeginsWith (codes "replay") (texts ws) → f ≡ get_or ws 1 f → string_bytes f ≢ codes "--semantics" → ¬ IsOption (string_bytes f)
+    (ws : List (String Global)) (f g : String Global) → length ws ≡ 2 → BeginsWith (codes "replay") (texts ws) → f ≡ get_or ws 1 f → g ≡ get_or ws 1 g → string_bytes g ≢ codes "--semantics" → ¬ IsOption (string_bytes f)
     → IsFirstWrong (texts ws) 3
-no_trace_word [] f l b i n o = absurd (omega arith)
-no_trace_word (v ∷ []) f l b i n o = absurd (omega arith)
-no_trace_word (v ∷ u ∷ []) f l b i n o =
+no_trace_word [] f g l b i j n o = absurd (omega arith)
+no_trace_word (v ∷ []) f g l b i j n o = absurd (omega arith)
+no_trace_word (v ∷ u ∷ []) f g l b i j n o =
     one_behind None (string_bytes v ∷ string_bytes u ∷ []) (string_bytes u) (ap (λ x. x ∷ string_bytes u ∷ []) (first_is (codes "replay") (string_bytes v) (string_bytes u ∷ []) b))
-    (subst (λ (x : String Global). string_bytes x ≢ codes "--semantics") i n) (subst (λ (x : String Global). ¬ IsOption (string_bytes x)) i o)
-no_trace_word (v ∷ u ∷ t ∷ ws) f l b i n o = absurd (omega arith)
+    (subst (λ (x : String Global). string_bytes x ≢ codes "--semantics") j n) (subst (λ (x : String Global). ¬ IsOption (string_bytes x)) i o)
+no_trace_word (v ∷ u ∷ t ∷ ws) f g l b i j n o = absurd (omega arith)
 
 pub replay_asks :
     (ws : List (String Global)) (f : String Global) → length ws ≡ 3 → BeginsWith (codes "replay") (texts ws) → f ≡ get_or ws 1 f → ¬ IsOption (string_bytes f) → AsksWith (texts ws) Replay None 0
@@ -228,16 +228,16 @@ replay_asks (v ∷ u ∷ t ∷ []) f l b i o =
 replay_asks (v ∷ u ∷ t ∷ s ∷ ws) f l b i o = absurd (omega arith)
 
 pub replay_surplus :
-    (ws : List (String Global)) (f : String Global) → 4 ≤ length ws → BeginsWith (codes "replay") (texts ws) → f ≡ get_or ws 1 f → string_bytes f ≢ codes "--semantics" → ¬ IsOption (string_bytes f)
+    (ws : List (String Global)) (f g : String Global) → 4 ≤ length ws → BeginsWith (codes "replay") (texts ws) → f ≡ get_or ws 1 f → g ≡ get_or ws 1 g → string_bytes g ≢ codes "--semantics" → ¬ IsOption (string_bytes f)
     → IsFirstWrong (texts ws) 4
-replay_surplus [] f l b i n o = absurd (omega arith)
-replay_surplus (v ∷ []) f l b i n o = absurd (omega arith)
-replay_surplus (v ∷ u ∷ []) f l b i n o = absurd (omega arith)
-replay_surplus (v ∷ u ∷ t ∷ []) f l b i n o = absurd (omega arith)
-replay_surplus (v ∷ u ∷ t ∷ s ∷ ws) f l b i n o =
+replay_surplus [] f g l b i j n o = absurd (omega arith)
+replay_surplus (v ∷ []) f g l b i j n o = absurd (omega arith)
+replay_surplus (v ∷ u ∷ []) f g l b i j n o = absurd (omega arith)
+replay_surplus (v ∷ u ∷ t ∷ []) f g l b i j n o = absurd (omega arith)
+replay_surplus (v ∷ u ∷ t ∷ s ∷ ws) f g l b i j n o =
     three_behind None (string_bytes v ∷ string_bytes u ∷ string_bytes t ∷ string_bytes s ∷ texts ws) (string_bytes u) (string_bytes t) (string_bytes s) (texts ws)
     (ap (λ x. x ∷ string_bytes u ∷ string_bytes t ∷ string_bytes s ∷ texts ws) (first_is (codes "replay") (string_bytes v) (string_bytes u ∷ string_bytes t ∷ string_bytes s ∷ texts ws) b))
-    (subst (λ (x : String Global). string_bytes x ≢ codes "--semantics") i n) (subst (λ (x : String Global). ¬ IsOption (string_bytes x)) i o)
+    (subst (λ (x : String Global). string_bytes x ≢ codes "--semantics") j n) (subst (λ (x : String Global). ¬ IsOption (string_bytes x)) i o)
 
 pub begins_with_option :
     (ws : List (String Global)) (f : String Global) → 2 ≤ length ws → BeginsWith (codes "replay") (texts ws) → f ≡ get_or ws 1 f → string_bytes f ≡ codes "--semantics" → BeginsWithOption (texts ws)

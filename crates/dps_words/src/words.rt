@@ -148,7 +148,7 @@ fn check_word(words: &[String]) -> Result<Asked, u32>
     match words {
         [] => Err(1),
         [_] => Err(2),
-        [_, file, ..] if is_option(file) => Err(2),
+        [_, checked, ..] if is_option(checked) => Err(2),
         [_, _] => Ok(alone(Command::Check)),
         [_, _, _, ..] => Err(3),
     }
