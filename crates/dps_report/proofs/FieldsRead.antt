@@ -124,7 +124,6 @@ no_colon_there bytes place behind f none at column rest small less e =
     let same = one_field (codes "at: ") bytes place (place_text at column) behind rest f (place_field bytes rest at column (omega (arith, small)) (omega (arith, less)) e) in
     stands_there 58 (decimal at) (decimal column) (subst (IsWithout 58) same.0 none)
 
-
 pub ruleset for_read_number = (no_number, number_unread, number_read)
 
 -- short numbers

@@ -200,5 +200,7 @@ module _ (format : Format) (bytes : List ℕ) where
         }
 
 pub ruleset for_spent_like = (spent_unnamed, no_node, no_steps, spent_without_path, spent_read)
+
 pub ruleset for_model_of_trace = (no_heading, other_heading, heading_read, heading_lines_read)
+
 pub ruleset for_not_equivalent_like = (no_node_of_attack, no_model_of_trace, attack_without_path, no_text_of_trace, attack_with_trace)

@@ -162,7 +162,11 @@ pub printed_again : (outcome : Outcome) (bytes : List ℕ) → IsFitting Second 
 printed_again outcome bytes fit e = (Second, record { fitting = fit; text = e })
 
 pub ruleset for_read_format = (format_read, no_format)
+
 pub ruleset for_read_result = (no_result, result_unnamed, result_read)
+
 pub ruleset for_read_named = (unnamed, no_name, name_read)
+
 pub ruleset for_outcome_like = (result_missing, result_found)
+
 pub ruleset for_read_report = (no_report, report_only, report_found, other_report)

@@ -116,8 +116,13 @@ no_run_read format bytes behind rest m l small names same short =
     }
 
 pub ruleset for_equivalent_like = (no_equivalent, equivalent_read)
+
 pub ruleset for_stopped_like = (no_stop, stop_read)
+
 pub ruleset for_accepted_like = (none_accepted, accepted_read)
+
 pub ruleset for_no_memory_like = (no_memory_read)
+
 pub ruleset for_matched_like = (matched_unnamed, no_matched, matched_read)
+
 pub ruleset for_no_run_like = (no_run_unnamed, no_label, no_run_read)

@@ -289,6 +289,9 @@ module _ (format : Format) (bytes : List ℕ) where
           }
 
 pub ruleset for_is_word = (word_made, cut_word)
+
 pub ruleset for_read_tests = (none_read, one_more, no_field_of_test, no_test, all_read, shorter)
+
 pub ruleset for_tests_like = (first_format, no_count, tests_read)
+
 pub ruleset for_attack_like = (attack_unnamed, no_attack_side, no_tests, attack_read)

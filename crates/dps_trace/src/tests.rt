@@ -18,13 +18,21 @@ fn signature(rt: &impl Abort, alloc: Global) -> Signature {
         assert!(rt; is_identifier(name));
         assert!(rt; signature.symbol_count() < 100);
         assert!(rt; signature.name_count() < 100);
-        assert!(rt; signature.add_symbol(name, SymKind::Constructor, arity).is_ok());
+        assert!(rt;
+            signature
+                .add_symbol(name, SymKind::Constructor, arity)
+                .is_ok()
+        );
     }
     signature
 }
 
 /// How many labels are read, and whether the text is printed again; or the line and the fault.
-fn read(alloc: Global, signature: &Signature, text: &str) -> Result<(usize, bool), (u32, &'static str)> {
+fn read(
+    alloc: Global,
+    signature: &Signature,
+    text: &str,
+) -> Result<(usize, bool), (u32, &'static str)> {
     let bytes = text.as_bytes();
     newlines_are_few(bytes);
     if bytes.len() > 1000 {
@@ -45,24 +53,51 @@ fn traces_are_read(rt: HostRuntime) -> Result<(), Fail> {
     let alloc = rt.alloc();
     let signature = signature(&rt, alloc);
     for (text, wanted) in [
-        ("trace 1\nside: left\nout(c,ax1)\nin(c,senc(ax1,@0))\nout(c,ax2)\n", Ok((3, true))),
+        (
+            "trace 1\nside: left\nout(c,ax1)\nin(c,senc(ax1,@0))\nout(c,ax2)\n",
+            Ok((3, true)),
+        ),
         ("trace 2\nmodel: classic\nside: right\n", Ok((0, true))),
-        ("trace 2\nmodel: private\nside: right\nin(c,h(h(unit)))\nin(c,c)\n", Ok((2, true))),
+        (
+            "trace 2\nmodel: private\nside: right\nin(c,h(h(unit)))\nin(c,c)\n",
+            Ok((2, true)),
+        ),
         ("trace 3\n", Err((1, "trace header"))),
         ("", Err((1, "trace header"))),
         ("trace 2\nside: left\n", Err((2, "trace model"))),
         ("trace 1\nside: middle\n", Err((2, "trace side"))),
         ("trace 1\nside: left\nout(c,ax2)\n", Err((3, "trace ax"))),
-        ("trace 1\nside: left\nout(c,ax1)\nin(c,ax2)\n", Err((4, "trace ax"))),
-        ("trace 1\nside: left\nout(c,ax01)\n", Err((3, "trace label"))),
+        (
+            "trace 1\nside: left\nout(c,ax1)\nin(c,ax2)\n",
+            Err((4, "trace ax")),
+        ),
+        (
+            "trace 1\nside: left\nout(c,ax01)\n",
+            Err((3, "trace label")),
+        ),
         ("trace 1\nside: left\nin(c,h(k))\n", Err((3, "trace label"))),
-        ("trace 1\nside: left\nin(c,h(c,c))\n", Err((3, "trace label"))),
-        ("trace 1\nside: left\nin(c,h(c)x)\n", Err((3, "trace label"))),
-        ("trace 1\nside: left\nin(c,unit())\n", Err((3, "trace label"))),
+        (
+            "trace 1\nside: left\nin(c,h(c,c))\n",
+            Err((3, "trace label")),
+        ),
+        (
+            "trace 1\nside: left\nin(c,h(c)x)\n",
+            Err((3, "trace label")),
+        ),
+        (
+            "trace 1\nside: left\nin(c,unit())\n",
+            Err((3, "trace label")),
+        ),
         ("trace 1\nside: left\nin(c, c)\n", Err((3, "trace label"))),
         ("trace 1\nside: left\nin(c,c)", Err((3, "trace label"))),
-        ("trace 1\nside: left\nin(c,@18446744073709551615)\n", Ok((1, true))),
-        ("trace 1\nside: left\nin(c,@18446744073709551616)\n", Err((3, "trace label"))),
+        (
+            "trace 1\nside: left\nin(c,@18446744073709551615)\n",
+            Ok((1, true)),
+        ),
+        (
+            "trace 1\nside: left\nin(c,@18446744073709551616)\n",
+            Err((3, "trace label")),
+        ),
         ("trace 1\nside: left\neav(c,ax1)\n", Err((3, "trace label"))),
         ("trace 1\nside: left\nin(c,c)\n\n", Err((4, "trace label"))),
     ] {

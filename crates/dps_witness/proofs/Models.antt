@@ -1,6 +1,6 @@
 -- Models that traces name.
 use Rattle.std.proofs.Common.{◌≡◌, ◌≢◌, ℕ, ◌+◌, Bool, true, false, List, [], Option, Some, None, refl, ap, sym, ◌∙◌}
-use Rattle.std.specs.Prelude.{IsSome}
+use Rattle.std.specs.Prelude.{IsTrue}
 use Rattle.std.proofs.lemmas.Option.{none-some}
 use Rattle.dps_signature.specs.Signature.{Signature}
 use Rattle.dps_process.specs.declared.model.CommModel.{CommModel}
@@ -14,6 +14,9 @@ use Rattle.dps_trace.specs.Faults.{IsRefusedFor}
 use Rattle.dps_trace.proofs.Apart.{headings_apart}
 use Rattle.dps_witness.specs.Models.{or_private, run_model}
 use Rattle.dps_witness.specs.Reading.{NamesOther, IsRead, HasFault, of_model, of_text, IsRefusal}
+
+pub false_is_no_answer : IsTrue false → ⊥
+false_is_no_answer e = cc
 
 -- a text with this heading
 pub no_heading : (option : Option CommModel) (text : List ℕ) → ((model : Option ModelName) (rest : List ℕ) → text ≢ heading model rest) → ¬ NamesOther option text
@@ -46,3 +49,5 @@ pub trace_read :
     (signature : Signature) (option : Option CommModel) (text : List ℕ) (trace : Trace) (model : CommModel) → IsTraceText signature trace text → Some model ≡ run_model option trace.model
     → IsRead signature option text trace model
 trace_read signature option text trace model h e = record { text_is = h; runs_in = sym e }
+
+pub ruleset for_read = (fault_of_model, fault_of_text, trace_names, trace_read)

@@ -41,3 +41,6 @@ other_read bytes outcome begins only other =
 
 pub attack_read : (bytes text : List ℕ) (outcome : Outcome) → IsReport outcome bytes → (model : Option ModelName) (node : List ℕ) → outcome ≡ NotEquivalent model node text → IsAttackReport bytes text
 attack_read bytes text outcome report model node e = record { model = model; node = node; report = subst (λ o. IsReport o bytes) e report }
+
+pub ruleset for_begins_report = (begins_first, begins_second, begins_neither)
+pub ruleset for_source = (none_read, other_read, attack_read)

@@ -128,7 +128,7 @@ nothing_held problem option word bytes outcome none (inr e) =
 pub held_alone :
     (problem : Problem) (option : Option CommModel) (word : ℕ) (bytes : List ℕ) (outcome : Outcome) → ¬ BeginsReport bytes → IsWitnessOfText problem option word bytes 0 outcome
     → IsWitness problem option word bytes outcome
-held_alone problem option word bytes outcome no h = h bytes (alone no refl refl)
+held_alone problem option word bytes outcome other h = h bytes (alone other refl refl)
 
 pub held_in_report :
     (problem : Problem) (option : Option CommModel) (word : ℕ) (bytes text : List ℕ) (outcome : Outcome) → BeginsReport bytes → IsAttackReport bytes text

@@ -7,7 +7,7 @@
 mod answering;
 mod model;
 mod reading;
+mod reporting;
 mod source;
-mod witness;
 
-pub use witness::witness;
+pub use reporting::witness;

@@ -18,19 +18,21 @@ pub(crate) struct Read {
 }
 
 /// Whether the text names a model under which it is not looked at.
-#[tactic(auto, using(crate::proofs::Models::for_names_other))]
 fn names_other(option: Option<CommModel>, text: &[u8]) -> bool
     ensures { IsTrue result ↔ NamesOther option text.now }
 {
     let Ok(heading) = read_heading(text) else {
         return false;
     };
-    run_model(option, heading.model).is_none()
+    match run_model(option, heading.model) {
+        Some(_) => false,
+        None => true,
+    }
 }
 
 /// The trace of the text, and the model under which it is looked at; or its first wrong line.
 #[tactic(auto, using(crate::proofs::Models::for_read))]
-pub(crate) fn read(
+pub(crate) fn trace_of(
     alloc: Global,
     signature: &Signature,
     option: Option<CommModel>,

@@ -49,7 +49,7 @@ fn trace_of(outcome: Outcome) -> Option<Text>
 
 /// Where the file has the text of its trace.
 #[tactic(auto, using(crate::proofs::Sources::for_source))]
-pub(crate) fn source(alloc: Global, bytes: &[u8]) -> Result<Source, NoMemory>
+pub(crate) fn find_text(alloc: Global, bytes: &[u8]) -> Result<Source, NoMemory>
     ensures { IfOk result (IsSource bytes.now) }
 {
     if !begins_report(bytes) {

@@ -23,14 +23,32 @@ fn words_have_their_plans(rt: HostRuntime) -> Result<(), Fail> {
     for (words, wanted) in [
         (["check", "F"].as_slice(), Ok((Command::Check, 0, 2))),
         (["theory", "--x"].as_slice(), Ok((Command::Theory, 0, 2))),
-        (["replay", "F", "--x"].as_slice(), Ok((Command::Replay, 0, 2))),
-        (["replay", "--semantics", "classic", "F", "T"].as_slice(), Ok((Command::Replay, 0, 4))),
+        (
+            ["replay", "F", "--x"].as_slice(),
+            Ok((Command::Replay, 0, 2)),
+        ),
+        (
+            ["replay", "--semantics", "classic", "F", "T"].as_slice(),
+            Ok((Command::Replay, 0, 4)),
+        ),
         (["replay"].as_slice(), Err(PlanRefusal::Wrong(2))),
         (["replay", "F"].as_slice(), Err(PlanRefusal::Wrong(3))),
-        (["replay", "--model", "F"].as_slice(), Err(PlanRefusal::Wrong(2))),
-        (["replay", "--semantics", "eavesdrop", "F"].as_slice(), Err(PlanRefusal::Wrong(3))),
-        (["replay", "--semantics", "private", "--semantics"].as_slice(), Err(PlanRefusal::Wrong(4))),
-        (["replay", "F", "T", "U"].as_slice(), Err(PlanRefusal::Wrong(4))),
+        (
+            ["replay", "--model", "F"].as_slice(),
+            Err(PlanRefusal::Wrong(2)),
+        ),
+        (
+            ["replay", "--semantics", "eavesdrop", "F"].as_slice(),
+            Err(PlanRefusal::Wrong(3)),
+        ),
+        (
+            ["replay", "--semantics", "private", "--semantics"].as_slice(),
+            Err(PlanRefusal::Wrong(4)),
+        ),
+        (
+            ["replay", "F", "T", "U"].as_slice(),
+            Err(PlanRefusal::Wrong(4)),
+        ),
         (["gen", "0"].as_slice(), Ok((Command::Gen, 0, 2))),
         (["gen", "87"].as_slice(), Ok((Command::Gen, 87, 2))),
         (["gen", "88"].as_slice(), Err(PlanRefusal::Wrong(2))),

@@ -6,8 +6,8 @@ ghost use Rattle.dps_witness.specs.Answers.{IsLooked, IsWitnessOfText, IsWitness
 
 use crate::answering::{answer, reported};
 use crate::model::name_of;
-use crate::reading::{Read, read};
-use crate::source::{Source, source};
+use crate::reading::{Read, trace_of};
+use crate::source::{Source, find_text};
 use dps_process::{CommModel, Problem};
 use dps_report::{Outcome, Text};
 use dps_trace::{TraceKind, TraceRefusal};
@@ -34,7 +34,7 @@ pub fn witness(
     requires { length bytes.now ≤ 1048576 }
     ensures { IsWitness problem.now option word bytes.now result }
 {
-    match source(alloc, bytes) {
+    match find_text(alloc, bytes) {
         Err(_) => Outcome::NoMemory,
         Ok(Source::Alone) => in_text(alloc, problem, option, word, 0, bytes),
         Ok(Source::InReport(text)) => {
@@ -75,7 +75,7 @@ fn in_text(
     requires few { before ≤ 3 }
     ensures { IsWitnessOfText problem.now option word text.now before result }
 {
-    match read(alloc, problem.signature(), option, text) {
+    match trace_of(alloc, problem.signature(), option, text) {
         Err(TraceRefusal::Fault { line, kind }) => refused(alloc, word, before + line, kind),
         Err(TraceRefusal::Memory) => Outcome::NoMemory,
         Ok(read) => look(alloc, problem, &read),
