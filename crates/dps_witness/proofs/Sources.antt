@@ -43,4 +43,5 @@ pub attack_read : (bytes text : List ℕ) (outcome : Outcome) → IsReport outco
 attack_read bytes text outcome report model node e = record { model = model; node = node; report = subst (λ o. IsReport o bytes) e report }
 
 pub ruleset for_begins_report = (begins_first, begins_second, begins_neither)
+
 pub ruleset for_source = (none_read, other_read, attack_read)

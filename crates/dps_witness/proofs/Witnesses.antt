@@ -149,4 +149,5 @@ shorter_text bytes text report short =
     )
 
 pub ruleset for_in_text = (room_for_line, few_read, looked_at, wrong_line)
+
 pub ruleset for_witness = (nothing_held, held_alone, held_in_report)

@@ -37,9 +37,7 @@ pub fn witness(
     match find_text(alloc, bytes) {
         Err(_) => Outcome::NoMemory,
         Ok(Source::Alone) => in_text(alloc, problem, option, word, 0, bytes),
-        Ok(Source::InReport(text)) => {
-            in_report(alloc, problem, option, word, &text, bytes)
-        }
+        Ok(Source::InReport(text)) => { in_report(alloc, problem, option, word, &text, bytes) }
         Ok(Source::Missing) => refused(alloc, word, 1, TraceKind::NoTrace),
     }
 }
@@ -58,7 +56,14 @@ fn in_report(
     ensures { IsWitnessOfText problem.now option word text.now 3 result }
 {
     let _bytes = bytes;
-    in_text(alloc, problem, option, word, LINES_BEFORE_TRACE, text.as_str().as_bytes())
+    in_text(
+        alloc,
+        problem,
+        option,
+        word,
+        LINES_BEFORE_TRACE,
+        text.as_str().as_bytes(),
+    )
 }
 
 /// What is reported of the text of a trace behind so many lines.
