@@ -209,9 +209,11 @@ pub record IsPlan (words : List (List ℕ)) (plan : Plan) : Type 0 where
   pub model : IsModelOf words plan.command plan.model
   pub number : IsNumberOf words plan.command plan.number
 
--- a status of an attack, of a match and of a trace without a run
-abbrev pub IsReplayStatus : ℕ → Type 0
-IsReplayStatus status = (status ≡ 0) ⊎ (status ≡ 1) ⊎ (status ≡ 9)
+-- a status of a match, of an attack and of a trace without a run
+pub data IsReplayStatus (status : ℕ) : Type 0 where
+  is_match : status ≡ 0 → IsReplayStatus status
+  is_attack : status ≡ 1 → IsReplayStatus status
+  is_stuck : status ≡ 9 → IsReplayStatus status
 
 -- the words have no plan, and no file was touched
 pub record AreRefused (old new : FilesState) (words : List (List ℕ)) (number : ℕ) : Type 0 where

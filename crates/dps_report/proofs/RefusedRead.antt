@@ -16,13 +16,12 @@ use Rattle.dps_report.proofs.LongRead.{NoField}
 use Rattle.dps_report.proofs.Only.{only_refused}
 use Rattle.dps_report.proofs.ShortRead.{NoShort, OneShort}
 
--- no place is read, and this one alone
+-- no place is read
 abbrev pub NoPlace : List ℕ → Type 0
 NoPlace bytes = (at column : ℕ) (rest : List ℕ) → at < 2 ^ 32 → column < 2 ^ 32 → bytes ≡ codes "at: " ++ line (place_text at column) rest → ⊥
 
-abbrev pub OnePlace : List ℕ → ℕ → ℕ → List ℕ → Type 0
-OnePlace bytes left right behind =
-    (at column : ℕ) (rest : List ℕ) → at < 2 ^ 32 → column < 2 ^ 32 → bytes ≡ codes "at: " ++ line (place_text at column) rest → (left ≡ at) × (right ≡ column) × (behind ≡ rest)
+cause_field : (rest cause : List ℕ) → IsCause cause → rest ≡ field (codes "cause") cause [] → IsField (codes "cause: ") rest cause []
+cause_field rest cause h e = record { whole = e; one_line = h.one_line }
 
 module _ (format : Format) (bytes : List ℕ) where
   pub no_file : NoShort (codes "file: ") bytes → FindsResult format results.Refused bytes None
@@ -49,7 +48,7 @@ module _ (format : Format) (bytes : List ℕ) where
               absurd (none at column (field (codes "cause") cause []) fit.valid.1 fit.valid.2 (at_place file at column cause fit e).1));
         }
 
-    module _ (rest : List ℕ) (l k : ℕ) (place_is : OnePlace behind l k rest) where
+    module _ (rest : List ℕ) (l k : ℕ) (place_is : (at column : ℕ) (after : List ℕ) → at < 2 ^ 32 → column < 2 ^ 32 → behind ≡ codes "at: " ++ line (place_text at column) after → (l ≡ at) × (k ≡ column) × (rest ≡ after)) where
       at_cause :
           (file at column : ℕ) (cause : List ℕ) → IsFitting format (Refused file at column cause) → bytes ≡ behind_result (Refused file at column cause)
           → (l ≡ at) × (k ≡ column) × (rest ≡ field (codes "cause") cause [])
@@ -61,14 +60,14 @@ module _ (format : Format) (bytes : List ℕ) where
             fitting = tt;
             only =
                 only_refused format bytes None (λ file at column cause fit e.
-                absurd (none cause [] (record { whole = (at_cause file at column cause fit e).2; one_line = fit.valid.3.one_line })));
+                absurd (none cause [] (cause_field rest cause fit.valid.3 (at_cause file at column cause fit e).2)));
           }
 
       module _ (value after : List ℕ) (here : IsField (codes "cause: ") rest value after) where
         same_cause :
             (file at column : ℕ) (cause : List ℕ) → IsFitting format (Refused file at column cause) → bytes ≡ behind_result (Refused file at column cause) → value ≡ cause
         same_cause file at column cause fit e =
-            (one_field (codes "cause: ") rest value cause after [] here (record { whole = (at_cause file at column cause fit e).2; one_line = fit.valid.3.one_line })).0
+            (one_field (codes "cause: ") rest value cause after [] here (cause_field rest cause fit.valid.3 (at_cause file at column cause fit e).2)).0
 
         pub no_text_of_cause : (IsUtf8 value → ◌≡◌ {A = Option (List ℕ)} None (Some value)) → FindsResult format results.Refused bytes None
         no_text_of_cause only =

@@ -1,6 +1,7 @@
 use Rattle.dps_words.specs.Words.{texts, plan_model}
 use Rattle.deepsec_main.proofs.Completing.{complete, one_verdict}
-use Rattle.deepsec_main.proofs.Reporting.{caused_kept, own_status, equivalent_only, theory_only, made_only, attack_only, trace_only, refused_only, words_only, long_only, follows, used_files, unused_files}
+use Rattle.deepsec_main.proofs.Counting.{caused_kept}
+use Rattle.deepsec_main.proofs.Reporting.{own_status, equivalent_only, theory_only, made_only, attack_only, trace_only, refused_only, words_only, long_only, follows, used_files, unused_files}
 use Rattle.deepsec_main.proofs.run.run_one.Goals as goal
 
 pub returns : goal.returns
