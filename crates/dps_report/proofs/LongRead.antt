@@ -1,9 +1,7 @@
 -- Outcomes with a path, a trace's text or a cause, read from the lines behind the result's.
-use Rattle.std.proofs.Common.{◌≡◌, ◌≢◌, ℕ, ◌<◌, ◌^◌, List, [], ◌∷◌, ◌++◌, Option, Some, None, refl, ap, sym, subst, ◌∙◌, codes, arith}
+use Rattle.std.proofs.Common.{◌≡◌, ◌≢◌, ℕ, ◌<◌, ◌^◌, List, [], ◌∷◌, ◌++◌, Option, Some, None, ap, sym, subst, ◌∙◌, codes, arith}
 use Rattle.std.specs.Fmt.{decimal}
 use Rattle.std.specs.Str.{IsUtf8}
-use Rattle.std.specs.Prelude.{IfSome}
-use Rattle.std.specs.List.{All}
 use Rattle.std.proofs.lemmas.List.Elements.{All-head, All-tail}
 use Rattle.std.proofs.lemmas.Option.{none-some}
 use Rattle.dps_path.specs.Text.{path_text, parts_text, IsPath}
@@ -12,15 +10,14 @@ use Rattle.dps_trace.specs.Cut.{IsWithout}
 use Rattle.dps_trace.specs.Text.{line, heading}
 use Rattle.dps_trace.proofs.Apart.{headings_apart}
 use Rattle.dps_report.specs.declared.format.Format.{Format}
-use Rattle.dps_report.specs.declared.outcome.Outcome.{Outcome}
-use Rattle.dps_report.specs.declared.outcome.Outcome.TheVariants.{NotEquivalent, Spent, Refused}
+use Rattle.dps_report.specs.declared.outcome.Outcome.TheVariants.{NotEquivalent, Spent}
 use Rattle.dps_report.specs.declared.results.ResultName.TheVariants as results
-use Rattle.dps_report.specs.Outcomes.{IsFitting, IsCause, IsTraceOf, EndsLine, HasTraceLines, Names}
-use Rattle.dps_report.specs.Reports.{field, place_text, behind_result}
+use Rattle.dps_report.specs.Outcomes.{IsFitting, IsTraceOf, EndsLine, HasTraceLines, Names}
+use Rattle.dps_report.specs.Reports.{field, behind_result}
 use Rattle.dps_report.specs.Finding.{IsField, FindsResult}
 use Rattle.dps_report.proofs.FieldsRead.{one_field, unbroken_digits}
-use Rattle.dps_report.proofs.Only.{only_not_equivalent, only_spent, only_refused}
-use Rattle.dps_report.proofs.ShortRead.{IsUnnamed, IsNamed, NoShort, OneShort}
+use Rattle.dps_report.proofs.Only.{only_not_equivalent, only_spent}
+use Rattle.dps_report.proofs.ShortRead.{IsUnnamed, IsNamed}
 
 abbrev pub NoField : List ℕ → List ℕ → Type 0
 NoField word bytes = (value rest : List ℕ) → ¬ IsField word bytes value rest

@@ -1,5 +1,5 @@
 -- An outcome with a result of this name is one of its kind.
-use Rattle.std.proofs.Common.{◌≡◌, ℕ, List, Option, Some, None, ap, sym, ◌∙◌}
+use Rattle.std.proofs.Common.{◌≡◌, ℕ, List, Option, Some, ap, sym, ◌∙◌}
 use Rattle.dps_branch.specs.declared.Side.{Side}
 use Rattle.dps_trace.specs.declared.model.ModelName.{ModelName}
 use Rattle.dps_report.specs.declared.format.Format.{Format}

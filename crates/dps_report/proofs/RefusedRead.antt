@@ -1,11 +1,9 @@
 -- A refused file, read from the lines behind the result's.
-use Rattle.std.proofs.Common.{◌≡◌, ℕ, ◌<◌, ◌^◌, List, [], ◌++◌, Option, Some, None, refl, ap, sym, subst, ◌∙◌, codes}
-use Rattle.std.specs.Fmt.{decimal}
+use Rattle.std.proofs.Common.{◌≡◌, ℕ, ◌<◌, ◌^◌, List, [], ◌++◌, Option, Some, None, ap, sym, subst, ◌∙◌, codes}
 use Rattle.std.specs.Str.{IsUtf8}
 use Rattle.std.proofs.lemmas.Option.{none-some}
 use Rattle.dps_trace.specs.Text.{line}
 use Rattle.dps_report.specs.declared.format.Format.{Format}
-use Rattle.dps_report.specs.declared.outcome.Outcome.{Outcome}
 use Rattle.dps_report.specs.declared.outcome.Outcome.TheVariants.{Refused}
 use Rattle.dps_report.specs.declared.results.ResultName.TheVariants as results
 use Rattle.dps_report.specs.Outcomes.{IsFitting, IsCause}

@@ -7,7 +7,6 @@ use Rattle.dps_trace.specs.Faults.{BeginsWith}
 use Rattle.dps_trace.specs.Text.{line, side_line}
 use Rattle.dps_trace.proofs.Apart.{sides_apart}
 use Rattle.dps_report.specs.declared.format.Format.{Format}
-use Rattle.dps_report.specs.declared.outcome.Outcome.{Outcome}
 use Rattle.dps_report.specs.declared.outcome.Outcome.TheVariants.{Equivalent, Stopped, TheoryAccepted, Matched, NoRun, NoMemory}
 use Rattle.dps_report.specs.declared.outcome.StopName.{StopName}
 use Rattle.dps_report.specs.declared.results.ResultName.TheVariants as results

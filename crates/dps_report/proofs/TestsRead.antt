@@ -1,8 +1,7 @@
 -- The texts of tests, and attacks with them.
-use Rattle.std.proofs.Common.{◌≡◌, ◌≢◌, ℕ, ◌+◌, ◌<◌, ◌≤◌, ◌^◌, Bool, true, false, List, [], ◌∷◌, ◌++◌, Option, Some, None, refl, ap, sym, subst, ◌∙◌, length, get_or, codes, arith, length-append, append_assoc}
-use Rattle.std.specs.Prelude.{◌==◌, ◌↔◌, IsTrue, IfSome}
+use Rattle.std.proofs.Common.{◌≡◌, ◌≢◌, ℕ, ◌<◌, ◌≤◌, ◌^◌, true, false, List, [], ◌∷◌, ◌++◌, Option, Some, None, refl, ap, sym, subst, ◌∙◌, length, get_or, codes, arith, length-append, append_assoc}
+use Rattle.std.specs.Prelude.{◌==◌, IsTrue, IfSome}
 use Rattle.std.specs.Fmt.{decimal}
-use Rattle.std.specs.Str.{IsUtf8}
 use Rattle.std.specs.List.{All}
 use Rattle.std.proofs.lemmas.List.Elements.{All-nil, All-head, All-tail, All-push}
 use Rattle.std.proofs.lemmas.List.{append_cancel_left, append-nil}
@@ -16,7 +15,6 @@ use Rattle.dps_trace.proofs.Apart.{sides_apart}
 use Rattle.dps_trace.proofs.Cuts.{one_cut, stands_there}
 use Rattle.dps_report.specs.declared.format.Format.{Format}
 use Rattle.dps_report.specs.declared.format.Format.TheVariants.{First, Second}
-use Rattle.dps_report.specs.declared.outcome.Outcome.{Outcome}
 use Rattle.dps_report.specs.declared.outcome.Outcome.TheVariants.{Attack}
 use Rattle.dps_report.specs.declared.results.ResultName.TheVariants as results
 use Rattle.dps_report.specs.Outcomes.{IsFitting, IsWord, IsTest, value, equal, IsTestText, HasTests, Names}

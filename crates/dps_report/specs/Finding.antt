@@ -1,6 +1,5 @@
 -- What is found of a report, part by part.
-use Rattle.std.specs.Prelude.{◌≡◌, ◌<◌, ◌^◌, ℕ, List, [], ◌∷◌, ◌++◌, Option, Some, None, IfSome, IsSomeAnd, All, ⊤}
-use Rattle.std.specs.Fmt.{decimal}
+use Rattle.std.specs.Prelude.{◌≡◌, ℕ, List, ◌++◌, Option, Some, IfSome, All}
 use Rattle.dps_trace.specs.Cut.{IsWithout}
 use Rattle.dps_trace.specs.Text.{line}
 use Rattle.dps_trace.specs.declared.model.ModelName.{ModelName}

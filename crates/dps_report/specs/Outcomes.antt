@@ -1,5 +1,5 @@
 -- Which outcomes have texts.
-use Rattle.std.specs.Prelude.{◌≡◌, ◌≢◌, ◌<◌, ◌^◌, ◌⊎◌, ℕ, List, [], ◌∷◌, ◌++◌, Option, Some, None, All, codes, ⊤}
+use Rattle.std.specs.Prelude.{◌≡◌, ◌≢◌, ◌<◌, ◌^◌, ℕ, List, [], ◌∷◌, ◌++◌, Option, Some, None, All, codes, ⊤}
 use Rattle.std.specs.Str.{IsUtf8}
 use Rattle.dps_path.specs.Text.{IsPath}
 use Rattle.dps_trace.specs.declared.model.ModelName.{ModelName}

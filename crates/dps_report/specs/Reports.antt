@@ -2,7 +2,6 @@
 use Rattle.std.specs.Prelude.{◌≡◌, ℕ, List, [], ◌∷◌, ◌++◌, Option, Some, None, length, codes, string_bytes, ⊤}
 use Rattle.std.specs.Fmt.{decimal}
 use Rattle.dps_path.specs.Text.{path_text}
-use Rattle.dps_branch.specs.declared.Side.{Side}
 use Rattle.dps_trace.specs.declared.model.ModelName.{ModelName}
 use Rattle.dps_trace.specs.Text.{line, side_line, model_line}
 use Rattle.dps_report.specs.declared.outcome.Outcome.{Outcome}

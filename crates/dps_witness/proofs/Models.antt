@@ -1,5 +1,5 @@
 -- Models that traces name.
-use Rattle.std.proofs.Common.{◌≡◌, ◌≢◌, ℕ, ◌+◌, Bool, true, false, List, [], Option, Some, None, refl, ap, sym, ◌∙◌}
+use Rattle.std.proofs.Common.{◌≡◌, ◌≢◌, ℕ, false, List, [], Option, Some, None, refl, ap, sym, ◌∙◌}
 use Rattle.std.specs.Prelude.{IsTrue}
 use Rattle.std.proofs.lemmas.Option.{none-some}
 use Rattle.dps_signature.specs.Signature.{Signature}
@@ -13,7 +13,7 @@ use Rattle.dps_trace.specs.Text.{line, heading, side_line, label_lines, IsTraceT
 use Rattle.dps_trace.specs.Faults.{IsRefusedFor}
 use Rattle.dps_trace.proofs.Apart.{headings_apart}
 use Rattle.dps_witness.specs.Models.{or_private, run_model}
-use Rattle.dps_witness.specs.Reading.{NamesOther, IsRead, HasFault, of_model, of_text, IsRefusal}
+use Rattle.dps_witness.specs.Reading.{NamesOther, IsRead, of_model, of_text, IsRefusal}
 
 pub false_is_no_answer : IsTrue false → ⊥
 false_is_no_answer e = cc

@@ -1,8 +1,6 @@
 -- Files that hold the text of a trace.
-use Rattle.std.proofs.Common.{◌≡◌, ◌≢◌, ◌⊎◌, inl, inr, ℕ, true, false, List, ◌++◌, Option, Some, None, refl, ap, sym, subst, ◌∙◌, codes}
-use Rattle.std.specs.Prelude.{IsTrue, ◌↔◌}
+use Rattle.std.proofs.Common.{◌≡◌, ◌≢◌, inl, inr, ℕ, List, ◌++◌, Option, Some, None, subst, codes}
 use Rattle.std.proofs.lemmas.Option.{none-some}
-use Rattle.dps_path.specs.Text.{IsPath}
 use Rattle.dps_trace.specs.declared.model.ModelName.{ModelName}
 use Rattle.dps_report.specs.declared.outcome.Outcome.{Outcome}
 use Rattle.dps_report.specs.declared.outcome.Outcome.TheVariants.{NotEquivalent}

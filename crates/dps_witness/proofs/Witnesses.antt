@@ -1,5 +1,5 @@
 -- What is reported of a file.
-use Rattle.std.proofs.Common.{◌≡◌, ◌⊎◌, inl, inr, ℕ, ◌+◌, ◌<◌, ◌≤◌, ◌^◌, List, [], ◌∷◌, ◌++◌, Option, Some, None, length, refl, ap, sym, subst, ◌∙◌, arith, length-append, codes}
+use Rattle.std.proofs.Common.{◌≡◌, ◌⊎◌, inl, inr, ℕ, ◌+◌, ◌<◌, ◌≤◌, ◌^◌, List, [], ◌∷◌, ◌++◌, Option, Some, None, length, refl, ap, sym, subst, arith, length-append, codes}
 use Rattle.dps_signature.specs.Signature.{Signature}
 use Rattle.dps_branch.specs.declared.Side.{Side}
 use Rattle.dps_process.specs.Steps.{Label}
@@ -17,12 +17,12 @@ use Rattle.dps_trace.specs.Text.{line, heading, first_header, second_header, mod
 use Rattle.dps_trace.specs.Faults.{HasTraceFault, heading_lines}
 use Rattle.dps_trace.specs.Values.{kind_text}
 use Rattle.dps_report.specs.declared.outcome.Outcome.{Outcome}
-use Rattle.dps_report.specs.declared.outcome.Outcome.TheVariants.{Refused, Attack, Matched, NoRun, NoMemory}
+use Rattle.dps_report.specs.declared.outcome.Outcome.TheVariants.{Refused, NoMemory}
 use Rattle.dps_path.specs.Text.{path_text}
 use Rattle.dps_report.specs.Reports.{field, first_line}
 use Rattle.dps_witness.specs.Models.{in_model, name_of}
-use Rattle.dps_witness.specs.Reading.{BeginsReport, IsAttackReport, Holds, alone, in_report, HoldsNone, IsRead, HasFault, of_model, of_text, no_trace, in_text}
-use Rattle.dps_witness.specs.Answers.{Reports, IsLooked, IsLookedAt, IsWitness, IsWitnessOfText}
+use Rattle.dps_witness.specs.Reading.{BeginsReport, IsAttackReport, alone, in_report, HoldsNone, IsRead, HasFault, of_model, of_text, no_trace, in_text}
+use Rattle.dps_witness.specs.Answers.{Reports, IsLooked, IsWitness, IsWitnessOfText}
 
 -- labels are no more than the bytes of their lines
 few_labels : (signature : Signature) (labels : List Label) (rest : List ℕ) → length labels ≤ length (label_lines signature labels rest)

@@ -1,5 +1,5 @@
 -- Which trace a file holds, and the first line that is wrong.
-use Rattle.std.specs.Prelude.{◌≡◌, ◌≢◌, ◌⊎◌, ℕ, ◌+◌, List, Option, Some, None, codes, ⊤}
+use Rattle.std.specs.Prelude.{◌≡◌, ◌⊎◌, ℕ, ◌+◌, List, Option, Some, None, codes, ⊤}
 use Rattle.dps_path.specs.Text.{IsPath}
 use Rattle.dps_signature.specs.Signature.{Signature}
 use Rattle.dps_process.specs.declared.model.CommModel.{CommModel}
@@ -13,7 +13,6 @@ use Rattle.dps_trace.specs.Text.{IsTraceText, heading}
 use Rattle.dps_trace.specs.Faults.{BeginsWith, HasTraceFault}
 use Rattle.dps_report.specs.declared.outcome.Outcome.TheVariants.{NotEquivalent}
 use Rattle.dps_report.specs.Reports.{IsReport}
-use Rattle.dps_witness.specs.declared.reading.Read.{Read}
 use Rattle.dps_witness.specs.declared.source.Source.{Source}
 use Rattle.dps_witness.specs.declared.source.Source.TheVariants.{Alone, InReport, Missing}
 use Rattle.dps_witness.specs.Models.{run_model}

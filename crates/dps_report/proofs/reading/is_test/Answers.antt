@@ -1,4 +1,4 @@
-use Rattle.std.proofs.Common.{◌≡◌, true, false}
+use Rattle.std.proofs.Common.{◌≡◌, false}
 use Rattle.dps_report.proofs.TestsRead.{false_is_no_answer, value_recipe, value_is_test, equal_recipes, equal_is_test, no_equal}
 use Rattle.dps_report.proofs.reading.is_test.Goals as goal
 
