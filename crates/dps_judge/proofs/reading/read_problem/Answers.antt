@@ -22,7 +22,8 @@ returns-in-Err-Fault c =
     let model = model_of c.args.model in
     let fault = c.in-Err-Fault.fault in
     in_ok c.unread.result (RefusesMeaning (fault_place fault) (fault_words fault.kind)) (IsMeaning model c.args.bytes.now)
-    (λ m h. unread_meaning model c.args.bytes.now fault (rw c.in-Err-Fault.field-0-is at c.in-Err-Fault.ensures) m h) c.unread.ensures
+    (λ m h. unread_meaning model c.args.bytes.now fault (rw c.in-Err-Fault.field-0-is at c.in-Err-Fault.ensures) m h)
+    (rw c.in-Err-Fault.field-0-is at c.unread.ensures)
 
 pub returns-in-Err-Memory : goal.returns-in-Err-Memory
 returns-in-Err-Memory c = tt
