@@ -197,7 +197,7 @@ module _ (old new : FilesState) (words : List (List ℕ)) where
   long_read (Made text) c e = absurd (omega (arith, e))
 
   -- the status of the answer that is given
-  module _ {W : Type 0} (written : W → Option (List ℕ)) (faults : W → ℕ) (before after : W) (answer : Answer) (status : ℕ) (c : Caused old new words answer)
+  module _ {W : Type 0} (written : W → Option (List ℕ)) (faults : W → ℕ) (before after : W) (answer : Answer) (status : ℕ) (c : Caused answer)
       (r : IsReported written faults before after answer status) where
     -- where it is no write fault's, it is the answer's, which is written whole
     record IsSent : Type 0 where

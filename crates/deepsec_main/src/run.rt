@@ -210,6 +210,7 @@ fn report_of(outcome: Outcome) -> Answer
 }
 
 /// What a plan comes to.
+#[tactic(auto, using(crate::proofs::Reading::for_planned))]
 fn planned<F: Files>(alloc: Global, words: &[String], plan: &Plan, files: &mut F) -> Answer
     requires { IsPlan (texts words.now) plan.now }
     ensures caused { IsCaused (F.state files.old) (F.state files.new) (texts words.now) result }
