@@ -194,4 +194,3 @@ module _ (old new : FilesState) (words : List (List ℕ)) where
   pub caused_kept : (one two : Answer) → (two ≡ one) ⊎ ((two ≡ Report NoMemory) × NeedsMemory one) → Caused one → Caused two
   caused_kept one two (inl e) c = subst Caused (sym e) c
   caused_kept one two (inr e) c = subst Caused (sym e.0) (out_of_memory one e.1 c)
-
