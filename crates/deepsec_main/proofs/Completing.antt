@@ -18,7 +18,7 @@ use Rattle.dps_report.specs.declared.outcome.StopName.TheVariants.{TooLong, Open
 use Rattle.dps_process.specs.declared.model.CommModel.{CommModel}
 use Rattle.deepsec_main.specs.declared.answer.Answer.{Answer}
 use Rattle.deepsec_main.specs.declared.answer.Answer.TheVariants.{Report, Made}
-use Rattle.dps_words.specs.Words.{word_at, model_word, replay_front, Asks, AsksToReplay, AsksToGenerate, HasPlan, HasNoPlan, plan_model}
+use Rattle.dps_words.specs.Words.{word_at, model_word, replay_front, AsksToReplay, AsksToGenerate, HasPlan, HasNoPlan, plan_model}
 use Rattle.deepsec_main.specs.Reports.{status_of}
 use Rattle.deepsec_main.specs.Answers.{limit, IsRefusedSomewhere, HasNoTheorySomewhere, IsOfFile, AsksOfWord, AsksOfWords, alone, with_trace, IsRead, HasReadText, HasOpenFault, HasReadFault, Happens, first, second, checked, of_theory, of_problem, of_trace, IsTooLong, IsCaused, NothingFails, NamesText, IsComplete}
 use Rattle.dps_words.proofs.Planning.{words_differ, check_or_gen, theory_or_gen, check_or_replay, replay_or_theory, replay_or_gen}

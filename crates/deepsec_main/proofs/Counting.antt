@@ -1,28 +1,21 @@
 -- What the counts of the files say of the run, and how the files were used.
-use Rattle.std.proofs.Common.{◌≡◌, ◌⊎◌, ℕ, ◌<◌, ◌≤◌, List, [], ◌∷◌, Option, None, refl, sym, ◌∙◌, ap, subst, inl, inr, arith}
-use Rattle.std.specs.Prelude.{string_bytes}
-use Rattle.std.specs.Io.KnownBytes.{append_known}
+use Rattle.std.proofs.Common.{◌≡◌, ◌⊎◌, ℕ, ◌<◌, List, [], ◌∷◌, refl, sym, ap, subst, inl, inr, arith}
 use Rattle.dps_io.specs.Counts.{Rose}
 use Rattle.dps_io.specs.Files.{FilesState}
-use Rattle.dps_gen.specs.Generated.{generated_text}
-use Rattle.dps_process.specs.declared.model.CommModel.{CommModel}
 use Rattle.dps_meaning.specs.Meaning.{MeansTheory}
 use Rattle.dps_judge.specs.Meaning.{MeansEquivalent}
 use Rattle.dps_judge.specs.Judgement.{HasNoTheory, IsAttacked, IsRefused}
-use Rattle.dps_report.specs.declared.format.Format.TheVariants.{Second}
 use Rattle.dps_report.specs.declared.outcome.Outcome.{Outcome}
 use Rattle.dps_report.specs.declared.outcome.Outcome.TheVariants.{Equivalent, NotEquivalent, Spent, Refused, Stopped, TheoryAccepted, Attack, Matched, NoRun, NoMemory}
-use Rattle.dps_report.specs.declared.outcome.StopName.{StopName}
 use Rattle.dps_report.specs.declared.outcome.StopName.TheVariants.{TooLong, OpenFault, ReadFault, WordsRefused}
-use Rattle.dps_report.specs.Reports.{report_text}
 use Rattle.dps_words.specs.declared.command.Command.{Command}
 use Rattle.dps_words.specs.declared.command.Command.TheVariants.{Check, Replay, Theory, Gen}
-use Rattle.dps_words.specs.Words.{Asks, AsksToReplay, AsksToGenerate, HasNoPlan, IsFirstWrong, plan_model}
+use Rattle.dps_words.specs.Words.{HasNoPlan, plan_model}
 use Rattle.deepsec_main.specs.declared.answer.Answer.{Answer}
 use Rattle.deepsec_main.specs.declared.answer.Answer.TheVariants.{Report, Made}
-use Rattle.deepsec_main.specs.Reports.{answer_text, stop_status, status_of, attack_report, theory_report, NeedsMemory}
-use Rattle.deepsec_main.specs.Answers.{AsksOfWord, AsksOfWords, IsOfFile, alone, with_trace, HasReadText, IsReadOnce, IsFaultless, Happens, first, second, IsReplayed, IsRefusedFile, checked, of_theory, of_problem, of_trace, IsTooLong, HasOpenFault, HasReadFault, IsOutOfMemory, IsReplayStatus, is_match, is_attack, is_stuck, IsCaused, IsReported, IsUsed, untouched, read_once, FollowsCounts}
-use Rattle.deepsec_main.proofs.Completing.{one_file, one_command, made_of_no_file, made_plan, place_at, replay_or_check, replay_no_theory, replay_or_made}
+use Rattle.deepsec_main.specs.Reports.{status_of, NeedsMemory}
+use Rattle.deepsec_main.specs.Answers.{IsOfFile, alone, with_trace, HasReadText, IsReadOnce, IsFaultless, Happens, first, second, IsReplayed, checked, of_theory, of_problem, of_trace, IsTooLong, HasOpenFault, HasReadFault, IsOutOfMemory, IsCaused, IsUsed, untouched, read_once}
+use Rattle.deepsec_main.proofs.Completing.{made_plan, place_at}
 use Rattle.deepsec_main.proofs.Reading.{plan_of_file, plan_of_both, faultless_on}
 
 module _ (old new : FilesState) (words : List (List ℕ)) where

@@ -1,5 +1,5 @@
 -- From what was read of files to what the run comes to.
-use Rattle.std.proofs.Common.{◌≡◌, ℕ, ◌≤◌, List, [], ◌∷◌, Option, Some, None, length, get_or, ap, refl, sym, ◌∙◌, subst, inl, inr, arith}
+use Rattle.std.proofs.Common.{◌≡◌, ℕ, ◌≤◌, List, [], ◌∷◌, Option, Some, None, length, get_or, ap, refl, sym, ◌∙◌, subst, inr, arith}
 use Rattle.std.specs.Prelude.{String, string_bytes}
 use Rattle.std.specs.declared.alloc.Global.{Global}
 use Rattle.dps_io.specs.Files.{FilesState}
@@ -8,14 +8,14 @@ use Rattle.dps_process.specs.Problem.{Problem}
 use Rattle.dps_process.specs.declared.model.CommModel.{CommModel}
 use Rattle.dps_judge.specs.Judgement.{HasNoMeaning, HasNoTheory, IsAttacked, IsRefused}
 use Rattle.dps_report.specs.declared.outcome.Outcome.{Outcome}
-use Rattle.dps_report.specs.declared.outcome.Outcome.TheVariants.{Equivalent, NotEquivalent, Spent, Refused, Stopped, TheoryAccepted, Attack, Matched, NoRun, NoMemory}
+use Rattle.dps_report.specs.declared.outcome.Outcome.TheVariants.{NotEquivalent, Refused, Stopped, Attack, Matched, NoRun, NoMemory}
 use Rattle.dps_report.specs.declared.outcome.StopName.TheVariants.{TooLong, OpenFault, ReadFault, WordsRefused}
 use Rattle.dps_witness.specs.Answers.{IsWitness}
 use Rattle.dps_words.specs.declared.command.Command.{Command}
 use Rattle.dps_words.specs.declared.command.Command.TheVariants.{Check, Replay, Theory, Gen}
 use Rattle.dps_words.specs.declared.command.Plan.{Plan}
 use Rattle.dps_words.specs.Words.{AsksToReplay, AsksToGenerate, IsModelOf, IsNumberOf, plan_numbers, replay_numbers, HasPlan, plan_model}
-use Rattle.deepsec_main.specs.Answers.{AsksOfWord, AsksOfWords, IsOfFile, NamesWord, alone, with_trace, IsPlan, IsPlanned, IsRead, HasReadText, IsFaultless, AreKept, IsBeside, first, second, IsReplayed, checked, of_theory, of_problem, of_trace, checked_model, IsUnread, IsWithoutMemory, IsProblemRead, IsProblemMissing, IsSeen, seen, unseen, IsOutOfMemory, IsReportCaused}
+use Rattle.deepsec_main.specs.Answers.{AsksOfWord, AsksOfWords, NamesWord, alone, with_trace, IsPlan, IsPlanned, IsRead, HasReadText, IsFaultless, AreKept, IsBeside, first, second, IsReplayed, checked, of_theory, of_problem, of_trace, checked_model, IsUnread, IsProblemRead, IsProblemMissing, IsSeen, seen, unseen, IsOutOfMemory, IsReportCaused}
 
 -- plans
 

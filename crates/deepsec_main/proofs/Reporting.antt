@@ -1,14 +1,12 @@
 -- What the status says of the run.
-use Rattle.std.proofs.Common.{◌≡◌, ◌⊎◌, ℕ, ◌<◌, ◌≤◌, List, [], ◌∷◌, Option, None, refl, sym, ◌∙◌, ap, subst, inl, inr, arith}
-use Rattle.std.specs.Prelude.{string_bytes}
+use Rattle.std.proofs.Common.{◌≡◌, ℕ, ◌≤◌, List, Option, None, refl, sym, ◌∙◌, ap, subst, inl, inr, arith}
 use Rattle.std.specs.Io.KnownBytes.{append_known}
 use Rattle.dps_io.specs.Counts.{Rose}
 use Rattle.dps_io.specs.Files.{FilesState}
 use Rattle.dps_gen.specs.Generated.{generated_text}
-use Rattle.dps_process.specs.declared.model.CommModel.{CommModel}
 use Rattle.dps_meaning.specs.Meaning.{MeansTheory}
 use Rattle.dps_judge.specs.Meaning.{MeansEquivalent}
-use Rattle.dps_judge.specs.Judgement.{HasNoTheory, IsAttacked, IsRefused}
+use Rattle.dps_judge.specs.Judgement.{IsAttacked}
 use Rattle.dps_report.specs.declared.format.Format.TheVariants.{Second}
 use Rattle.dps_report.specs.declared.outcome.Outcome.{Outcome}
 use Rattle.dps_report.specs.declared.outcome.Outcome.TheVariants.{Equivalent, NotEquivalent, Spent, Refused, Stopped, TheoryAccepted, Attack, Matched, NoRun, NoMemory}
@@ -17,14 +15,13 @@ use Rattle.dps_report.specs.declared.outcome.StopName.TheVariants.{TooLong, Open
 use Rattle.dps_report.specs.Reports.{report_text}
 use Rattle.dps_words.specs.declared.command.Command.{Command}
 use Rattle.dps_words.specs.declared.command.Command.TheVariants.{Check, Replay, Theory, Gen}
-use Rattle.dps_words.specs.Words.{Asks, AsksToReplay, AsksToGenerate, HasNoPlan, IsFirstWrong, plan_model}
+use Rattle.dps_words.specs.Words.{Asks, AsksToGenerate, HasNoPlan, IsFirstWrong, plan_model}
 use Rattle.deepsec_main.specs.declared.answer.Answer.{Answer}
 use Rattle.deepsec_main.specs.declared.answer.Answer.TheVariants.{Report, Made}
-use Rattle.deepsec_main.specs.Reports.{answer_text, stop_status, status_of, attack_report, theory_report, NeedsMemory}
-use Rattle.deepsec_main.specs.Answers.{AsksOfWord, AsksOfWords, IsOfFile, alone, with_trace, HasReadText, IsReadOnce, IsFaultless, Happens, first, second, IsReplayed, IsRefusedFile, checked, of_theory, of_problem, of_trace, IsTooLong, HasOpenFault, HasReadFault, IsOutOfMemory, IsReplayStatus, is_match, is_attack, is_stuck, IsCaused, IsReported, IsUsed, untouched, read_once, FollowsCounts}
-use Rattle.deepsec_main.proofs.Completing.{one_file, one_command, made_of_no_file, made_plan, place_at, replay_or_check, replay_no_theory, replay_or_made}
+use Rattle.deepsec_main.specs.Reports.{answer_text, stop_status, status_of, attack_report, theory_report}
+use Rattle.deepsec_main.specs.Answers.{AsksOfWord, HasReadText, Happens, IsReplayed, IsRefusedFile, IsTooLong, IsReplayStatus, is_match, is_attack, is_stuck, IsCaused, IsReported, IsUsed, FollowsCounts}
+use Rattle.deepsec_main.proofs.Completing.{one_file, one_command, made_of_no_file, replay_or_check, replay_no_theory, replay_or_made}
 use Rattle.deepsec_main.proofs.Counting.{fault_read, counted_read, not_five, memory_read, used, unused}
-use Rattle.deepsec_main.proofs.Reading.{plan_of_file, plan_of_both, faultless_on}
 
 -- what stops a run has a status from 4 on
 stop_high : (name : StopName) → 4 ≤ stop_status name

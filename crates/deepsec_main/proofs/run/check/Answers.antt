@@ -3,7 +3,7 @@ use Rattle.dps_judge.specs.declared.verdict.Verdict.{Verdict}
 use Rattle.dps_judge.specs.Judgement.{IsJudged}
 use Rattle.dps_words.specs.declared.command.Command.TheVariants.{Check}
 use Rattle.dps_words.specs.Words.{texts, plan_model}
-use Rattle.deepsec_main.specs.Answers.{IsRead, NamesWord, alone}
+use Rattle.deepsec_main.specs.Answers.{IsRead, alone}
 use Rattle.deepsec_main.proofs.Reading.{unread_caused, file_without_memory, check_refused, check_attacked}
 use Rattle.deepsec_main.proofs.run.check.Goals as goal
 

@@ -1,5 +1,5 @@
 use Rattle.dps_words.specs.Words.{texts}
-use Rattle.deepsec_main.proofs.Reading.{missing_caused, beside_of, beside_caused, kept_on}
+use Rattle.deepsec_main.proofs.Reading.{missing_caused, beside_of, beside_caused}
 use Rattle.deepsec_main.proofs.run.replay.Goals as goal
 
 pub returns-in-Err-clause-caused : goal.returns-in-Err-clause-caused
