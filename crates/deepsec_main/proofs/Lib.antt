@@ -1,3 +1,4 @@
-pub mod Completing
-pub mod Reporting
 pub mod Reading
+pub mod Completing
+pub mod Counting
+pub mod Reporting

@@ -1,7 +1,7 @@
 //! `deepsec`: checks whether the two processes of a file are trace equivalent, and whether its rules are accepted.
 #![tactic(auto)]
 
-mod outcome;
+mod answer;
 mod report;
 mod run;
 #[cfg(test)]

@@ -4,7 +4,7 @@ use dps_io::{MemFiles, MemSink};
 use std::alloc::Global;
 use std::test::Fail;
 
-const EQUIVALENT: &str = "report 1\nresult: equivalent\n";
+const EQUIVALENT: &str = "report 2\nresult: equivalent\nmodel: private\n";
 
 const SMALLEST: &str = "query trace_equiv(0,0).\n";
 
@@ -35,31 +35,35 @@ const DECLARED: &str = "free c, a, b.\nfun senc/2.\n";
 #[test]
 fn texts_have_their_reports(rt: HostRuntime) -> Result<(), Fail> {
     for (query, code, lines) in [
-        ("query trace_equiv(0,0).", 0, "result: equivalent\n"),
+        (
+            "query trace_equiv(0,0).",
+            0,
+            "result: equivalent\nmodel: private\n",
+        ),
         (
             "query trace_equiv(new k; out(c,k),new n; out(c,n)).",
             0,
-            "result: equivalent\n",
+            "result: equivalent\nmodel: private\n",
         ),
         (
             "query trace_equiv(out(c,a),out(c,b)).",
             1,
-            "result: not equivalent\nnode: /\ntrace 1\nside: left\nout(c,ax1)\n",
+            "result: not equivalent\nnode: /\ntrace 2\nmodel: private\nside: left\nout(c,ax1)\n",
         ),
         (
             "query trace_equiv(new k; out(c,k); out(c,k),new k; new n; out(c,k); out(c,n)).",
             1,
-            "result: not equivalent\nnode: /\ntrace 1\nside: left\nout(c,ax1)\nout(c,ax2)\n",
+            "result: not equivalent\nnode: /\ntrace 2\nmodel: private\nside: left\nout(c,ax1)\nout(c,ax2)\n",
         ),
         (
             "query trace_equiv(0,out(c,a)).",
             1,
-            "result: not equivalent\nnode: /\ntrace 1\nside: right\nout(c,ax1)\n",
+            "result: not equivalent\nnode: /\ntrace 2\nmodel: private\nside: right\nout(c,ax1)\n",
         ),
         (
             "query trace_equiv(out(c,a) | out(c,b),out(c,b) | out(c,a)).",
             0,
-            "result: equivalent\n",
+            "result: equivalent\nmodel: private\n",
         ),
         (
             "query trace_equiv(in(c,x),0).",
@@ -90,7 +94,7 @@ fn texts_have_their_reports(rt: HostRuntime) -> Result<(), Fail> {
         let alloc = rt.alloc();
         let text = format!(in alloc; "{DECLARED}{query}")?;
         let (got, wrote) = run(alloc, &["check", "F"], text.as_bytes(), &[], &[])?;
-        let report = format!(in alloc; "report 1\n{lines}")?;
+        let report = format!(in alloc; "report 2\n{lines}")?;
         assert_eq!(rt; got, code, "at {query}");
         assert_eq!(rt; wrote.as_slice(), report.as_bytes());
     }
@@ -105,21 +109,21 @@ fn words_and_faults_have_their_reports(rt: HostRuntime) -> Result<(), Fail> {
             [].as_slice(),
             [].as_slice(),
             4,
-            "report 1\nresult: open fault\nword: 2\n",
+            "report 2\nresult: open fault\nword: 2\n",
         ),
         (
             ["check", "F"].as_slice(),
             [1].as_slice(),
             [].as_slice(),
             4,
-            "report 1\nresult: open fault\nword: 2\n",
+            "report 2\nresult: open fault\nword: 2\n",
         ),
         (
             ["check", "F"].as_slice(),
             [2].as_slice(),
             [].as_slice(),
             4,
-            "report 1\nresult: read fault\nword: 2\n",
+            "report 2\nresult: read fault\nword: 2\n",
         ),
         (
             ["check", "F"].as_slice(),
@@ -133,63 +137,63 @@ fn words_and_faults_have_their_reports(rt: HostRuntime) -> Result<(), Fail> {
             [].as_slice(),
             [].as_slice(),
             7,
-            "report 1\nresult: words refused\nword: 1\n",
+            "report 2\nresult: words refused\nword: 1\n",
         ),
         (
             ["chec", "F"].as_slice(),
             [].as_slice(),
             [].as_slice(),
             7,
-            "report 1\nresult: words refused\nword: 1\n",
+            "report 2\nresult: words refused\nword: 1\n",
         ),
         (
             ["check"].as_slice(),
             [].as_slice(),
             [].as_slice(),
             7,
-            "report 1\nresult: words refused\nword: 2\n",
+            "report 2\nresult: words refused\nword: 2\n",
         ),
         (
             ["check", "--steps", "F"].as_slice(),
             [].as_slice(),
             [].as_slice(),
             7,
-            "report 1\nresult: words refused\nword: 2\n",
+            "report 2\nresult: words refused\nword: 2\n",
         ),
         (
             ["check", "F", "G"].as_slice(),
             [].as_slice(),
             [].as_slice(),
             7,
-            "report 1\nresult: words refused\nword: 3\n",
+            "report 2\nresult: words refused\nword: 3\n",
         ),
         (
             ["theory"].as_slice(),
             [].as_slice(),
             [].as_slice(),
             7,
-            "report 1\nresult: words refused\nword: 2\n",
+            "report 2\nresult: words refused\nword: 2\n",
         ),
         (
             ["theory", "F", "G"].as_slice(),
             [].as_slice(),
             [].as_slice(),
             7,
-            "report 1\nresult: words refused\nword: 3\n",
+            "report 2\nresult: words refused\nword: 3\n",
         ),
         (
             ["gen", "88"].as_slice(),
             [].as_slice(),
             [].as_slice(),
             7,
-            "report 1\nresult: words refused\nword: 2\n",
+            "report 2\nresult: words refused\nword: 2\n",
         ),
         (
             ["theory", "--steps"].as_slice(),
             [].as_slice(),
             [].as_slice(),
             4,
-            "report 1\nresult: open fault\nword: 2\n",
+            "report 2\nresult: open fault\nword: 2\n",
         ),
     ] {
         let (got, wrote) = run(
@@ -265,7 +269,7 @@ fn rules_have_their_reports(rt: HostRuntime) -> Result<(), Fail> {
     ] {
         let alloc = rt.alloc();
         let text = format!(in alloc; "const a, b.\n{rules}{SMALLEST}")?;
-        let report = format!(in alloc; "report 1\n{lines}")?;
+        let report = format!(in alloc; "report 2\n{lines}")?;
         let (got, wrote) = run(alloc, &["theory", "F"], text.as_bytes(), &[], &[])?;
         assert_eq!(rt; got, code, "at {rules}");
         assert_eq!(rt; wrote.as_slice(), report.as_bytes());
@@ -301,8 +305,101 @@ fn phases_come_in_their_order(rt: HostRuntime) -> Result<(), Fail> {
     ] {
         let alloc = rt.alloc();
         let (got, wrote) = run(alloc, &["check", "F"], text.as_bytes(), &[], &[])?;
-        let report = format!(in alloc; "report 1\nresult: refused\nfile: 2\n{cause}\n")?;
+        let report = format!(in alloc; "report 2\nresult: refused\nfile: 2\n{cause}\n")?;
         assert_eq!(rt; got, 3);
+        assert_eq!(rt; wrote.as_slice(), report.as_bytes());
+    }
+    Ok(())
+}
+
+// Runs `replay` with a file F, a file T and these options.
+fn replayed(
+    alloc: Global,
+    options: &[&str],
+    text: &str,
+    trace: &str,
+) -> Result<(u8, Vec<u8>), Fail> {
+    let mut given = Vec::new(alloc);
+    given.push(String::from_str(alloc, "replay")?)?;
+    for word in options {
+        given.push(String::from_str(alloc, *word)?)?;
+    }
+    given.push(String::from_str(alloc, "F")?)?;
+    given.push(String::from_str(alloc, "T")?)?;
+    let mut all = Vec::new(alloc);
+    all.push((
+        String::from_str(alloc, "F")?,
+        Vec::from_slice(alloc, text.as_bytes())?,
+    ))?;
+    all.push((
+        String::from_str(alloc, "T")?,
+        Vec::from_slice(alloc, trace.as_bytes())?,
+    ))?;
+    let mut files = MemFiles::new(all, Vec::new(alloc));
+    let mut sink = MemSink::new(alloc, 1000, 1000, Vec::new(alloc))?;
+    let status = run_one(alloc, &given, &mut files, &mut sink);
+    Ok((status.code, Vec::from_slice(alloc, sink.written())?))
+}
+
+#[test]
+fn traces_have_their_answers(rt: HostRuntime) -> Result<(), Fail> {
+    let none: &[&str] = &[];
+    let classic: &[&str] = &["--semantics", "classic"];
+    for (options, trace, code, lines) in [
+        (
+            none,
+            "trace 1\nside: left\nout(c,ax1)\n",
+            1,
+            "attack\nmodel: private\nside: left\ntests: 1\ntest: equal ax1 a\n",
+        ),
+        (
+            classic,
+            "trace 1\nside: left\n",
+            0,
+            "matched\nmodel: classic\nside: left\n",
+        ),
+        (
+            none,
+            "report 2\nresult: not equivalent\nnode: /0/0\ntrace 2\nmodel: private\nside: left\nout(c,ax1)\n",
+            1,
+            "attack\nmodel: private\nside: left\ntests: 1\ntest: equal ax1 a\n",
+        ),
+        (
+            classic,
+            "report 2\nresult: not equivalent\nnode: /0/0\ntrace 2\nmodel: private\nside: left\nout(c,ax1)\n",
+            3,
+            "refused\nfile: 5\nat: 5:1\ncause: trace model\n",
+        ),
+        (
+            none,
+            "trace 1\nside: left\nout(c,ax1)\nout(c,ax2)\n",
+            9,
+            "no run\nmodel: private\nlabel: 2\n",
+        ),
+        (
+            none,
+            "trace 1\nside: left\nout(c,ax2)\n",
+            3,
+            "refused\nfile: 3\nat: 3:1\ncause: trace ax\n",
+        ),
+        (
+            none,
+            "report 2\nresult: matched\nmodel: private\nside: left\n",
+            3,
+            "refused\nfile: 3\nat: 1:1\ncause: no trace\n",
+        ),
+        (
+            none,
+            "trace 2\nmodel: eavesdrop\nside: left\n",
+            3,
+            "refused\nfile: 3\nat: 2:1\ncause: trace model\n",
+        ),
+    ] {
+        let alloc = rt.alloc();
+        let text = format!(in alloc; "{DECLARED}query trace_equiv(out(c,a),out(c,b)).")?;
+        let (got, wrote) = replayed(alloc, options, text.as_str(), trace)?;
+        let report = format!(in alloc; "report 2\nresult: {lines}")?;
+        assert_eq!(rt; got, code, "at {trace}");
         assert_eq!(rt; wrote.as_slice(), report.as_bytes());
     }
     Ok(())
@@ -331,7 +428,7 @@ fn a_file_has_at_most_so_many_bytes(rt: HostRuntime) -> Result<(), Fail> {
     assert_eq!(rt; code, 8);
     assert_eq!(rt;
         wrote.as_slice(),
-        b"report 1\nresult: too long\nword: 2\n".as_slice()
+        b"report 2\nresult: too long\nword: 2\n".as_slice()
     );
     Ok(())
 }

@@ -18,7 +18,7 @@ use Rattle.dps_process.specs.Laws.{TracesHaveLawfulLabels}
 use Rattle.dps_tree.specs.Words.{outputs_from, word_of}
 use Rattle.dps_tree.specs.Answer.{IsLeastAttack}
 use Rattle.dps_meaning.specs.Causes.{Cause, reading, cause_text}
-use Rattle.dps_meaning.specs.Meaning.{HasDeclarations, AreOfText, IsProblemOf, MeansTheory}
+use Rattle.dps_meaning.specs.Meaning.{AreOfText, IsProblemOf}
 use Rattle.dps_meaning.specs.Faults.{IsTheoryFault, IsFaultOf, unread, declared}
 use Rattle.dps_meaning.specs.Laws.{ReadFilesAreDeclared}
 use Rattle.dps_meaning.specs.Refusals.{IsChecked}
@@ -28,7 +28,7 @@ use Rattle.dps_judge.specs.declared.verdict.Verdict.{Verdict}
 use Rattle.dps_judge.specs.declared.verdict.Verdict.TheVariants.{Equivalent, NotEquivalent, Refused}
 use Rattle.dps_judge.specs.declared.verdict.TheoryVerdict.{TheoryVerdict}
 use Rattle.dps_judge.specs.declared.verdict.TheoryVerdict.TheVariants as theory
-use Rattle.dps_judge.specs.Meaning.{HasNothingUnbuilt, MeansJudged}
+use Rattle.dps_judge.specs.Meaning.{MeansJudged}
 use Rattle.dps_judge.specs.Judgement.{HasNoTheory, IsRefused, meaningless, unbuilt, not_built, IsJudged, JudgesFile, JudgesTheory, IsTheoryJudged, IsAnswered, Refuses, RefusesTheory}
 use Rattle.dps_judge.specs.Unbuilt.{first_unbuilt}
 

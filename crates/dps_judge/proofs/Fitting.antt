@@ -1,18 +1,15 @@
 -- The parts of a production, one by one.
-use Rattle.std.proofs.Common.{◌≡◌, Bool, true, false, ◌||◌, if◌then◌else◌, List, [], ◌∷◌, ◌++◌, refl, sym, ap, subst}
+use Rattle.std.proofs.Common.{◌≡◌, Bool, true, false, ◌||◌, if◌then◌else◌, List, [], ◌∷◌, ◌++◌, refl, sym}
 use denote.Enum.Bare.{sameb, same_true}
 use Rattle.dps_lex.specs.contracts.vocabulary.TokenKind.{the_type as kinds}
 use Rattle.dps_lex.specs.declared.vocabulary.TokenKind.{TokenKind}
 use Rattle.dps_lex.specs.declared.vocabulary.TokenKind.TheVariants as kind
 use Rattle.dps_syntax.specs.declared.grammar.Word.{Word}
 use Rattle.dps_syntax.specs.declared.grammar.Word.TheVariants.{Of, Zero}
-use Rattle.dps_syntax.specs.declared.grammar.Production.{Production}
-use Rattle.dps_syntax.specs.declared.grammar.Production.TheVariants as production
-use Rattle.dps_syntax.specs.declared.grammar.More.TheVariants as more
 use Rattle.dps_syntax.specs.declared.grammar.Symbol.{Symbol}
 use Rattle.dps_syntax.specs.declared.grammar.Symbol.TheVariants.{Sign, Inner, More, Close}
 use Rattle.dps_syntax.specs.Tree.{Lexeme, Parts, none, token, inner as within, words, is_zero, word_of}
-use Rattle.dps_syntax.specs.Grammar.{Derives, done, sign, inner, taken, left, takes, sign_of}
+use Rattle.dps_syntax.specs.Grammar.{Derives, done, sign, inner, taken, left, takes}
 use Rattle.dps_judge.proofs.Rows.{IsOf}
 
 -- the parts are what the symbols stand for, up to the first option

@@ -10,3 +10,4 @@ pub mod PlainTheories
 pub mod PlainSides
 pub mod Answering
 pub mod Verdicts
+pub mod Meanings

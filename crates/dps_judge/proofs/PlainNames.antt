@@ -1,30 +1,27 @@
 -- Names looked up in terms and processes where nothing is used that is not judged yet: the signature stays, and the
 -- processes are of `0`, `|`, copies, `new`, outputs and calls.
-use Rattle.std.proofs.Common.{◌≡◌, ◌⊎◌, ℕ, zero, suc, ◌+◌, Bool, true, false, ◌&&◌, ◌||◌, if◌then◌else◌, leb, List, [], ◌∷◌, Option, Some, None, refl, sym, ap, subst, ◌∙◌, inl, inr}
+use Rattle.std.proofs.Common.{◌≡◌, ℕ, zero, suc, ◌+◌, Bool, true, false, ◌&&◌, ◌||◌, if◌then◌else◌, leb, List, [], ◌∷◌, Option, Some, None, refl, sym, ap, subst, ◌∙◌, inl, inr}
 use denote.Enum.Bare.{sameb}
 use Rattle.dps_lex.specs.contracts.vocabulary.TokenKind.{the_type as kinds}
-use Rattle.dps_lex.specs.declared.vocabulary.TokenKind.{TokenKind}
 use Rattle.dps_lex.specs.declared.vocabulary.TokenKind.TheVariants as kind
 use Rattle.dps_signature.specs.Signature.{Signature}
 use Rattle.dps_syntax.specs.declared.grammar.Word.{Word}
 use Rattle.dps_syntax.specs.declared.grammar.Production.{Production}
 use Rattle.dps_syntax.specs.declared.grammar.Production.TheVariants as production
 use Rattle.dps_syntax.specs.declared.grammar.More.TheVariants as more
-use Rattle.dps_syntax.specs.declared.grammar.Symbol.{Symbol}
-use Rattle.dps_syntax.specs.declared.grammar.Symbol.TheVariants.{Sign, Inner, More, Close}
+use Rattle.dps_syntax.specs.declared.grammar.Symbol.TheVariants.{Inner, More}
 use Rattle.dps_syntax.specs.Tree.{Lexeme, Parts, none, token, inner as within}
-use Rattle.dps_syntax.specs.Grammar.{Derives, done as nothing, sign, inner, taken, left, IsOneOf, alternatives, sign_of, zero_sign}
+use Rattle.dps_syntax.specs.Grammar.{Derives, done as nothing, sign, taken, left, sign_of}
 use Rattle.dps_scopes.specs.declared.meaning.Meaning.{Meaning}
 use Rattle.dps_scopes.specs.declared.meaning.Meaning.TheVariants.{Local as a_local, Name as a_name, Function as a_function, Process as a_process, Projection as a_projection, Unknown as unknown}
-use Rattle.dps_scopes.specs.Body as body
-use Rattle.dps_scopes.specs.Outcome.{Outcome, done, faulty, and_then, fault_at}
-use Rattle.dps_scopes.specs.Scopes.{Locals, is_projection_word, are_projection_digits, begins_as_projection, projection_of, defined}
+use Rattle.dps_scopes.specs.Outcome.{Outcome, done, faulty, and_then}
+use Rattle.dps_scopes.specs.Scopes.{Locals, is_projection_word, begins_as_projection, projection_of, defined}
 use Rattle.dps_scopes.specs.Scopes.{named, function_or_named, declared_meaning, projection_or_declared, local_or_declared, local_named, meaning}
 use Rattle.dps_scopes.specs.Terms.{is_kind, count_inner, without_arguments, function_of, identifier_as, tuple_of, term, terms, identifier}
-use Rattle.dps_names.specs.Program.{Written, Body, Bodies, nil, parallel, choice, copies, fresh, input, output, conditional, bind, call, bodies, Definition}
-use Rattle.dps_names.specs.Processes.{joined, called, call_as, channel, parallels, choices, process, grouped, repeated, restricted, sent, continued, is_number_of_copies, number_of}
-use Rattle.dps_judge.specs.Unbuilt.{is_unbuilt_word, is_unbuilt, has_comma, opening}
-use Rattle.dps_judge.proofs.Rows.{IsClean, IsOf, IsTree, IsRow, holds, row}
+use Rattle.dps_names.specs.Program.{Written, Definition}
+use Rattle.dps_names.specs.Processes.{channel}
+use Rattle.dps_judge.specs.Unbuilt.{is_unbuilt_word, has_comma, opening}
+use Rattle.dps_judge.proofs.Rows.{IsOf, IsTree, IsRow, holds, row}
 use Rattle.dps_judge.proofs.Fitting.{Fits, fits, kind_is}
 
 -- outcomes

@@ -1,7 +1,6 @@
 -- Names looked up in processes where nothing is used that is not judged yet: the signature stays, and the processes are
 -- of `0`, `|`, copies, `new`, outputs and calls.
-use Rattle.std.proofs.Common.{◌≡◌, ◌⊎◌, ℕ, Bool, true, false, ◌||◌, if◌then◌else◌, List, [], ◌∷◌, ◌++◌, Option, Some, None, refl, sym, ap, subst, ◌∙◌, inl, inr}
-use denote.Enum.Bare.{sameb}
+use Rattle.std.proofs.Common.{◌≡◌, ℕ, Bool, true, false, List, [], ◌∷◌, ◌++◌, None, refl, sym, ap, subst, ◌∙◌, inl, inr}
 use Rattle.dps_lex.specs.declared.vocabulary.TokenKind.{TokenKind}
 use Rattle.dps_lex.specs.declared.vocabulary.TokenKind.TheVariants as kind
 use Rattle.dps_signature.specs.Signature.{Signature}
@@ -10,17 +9,17 @@ use Rattle.dps_syntax.specs.declared.grammar.Production.{Production}
 use Rattle.dps_syntax.specs.declared.grammar.Production.TheVariants as production
 use Rattle.dps_syntax.specs.declared.grammar.More.TheVariants as more
 use Rattle.dps_syntax.specs.declared.grammar.Symbol.{Symbol}
-use Rattle.dps_syntax.specs.declared.grammar.Symbol.TheVariants.{Sign, Inner, More, Close}
+use Rattle.dps_syntax.specs.declared.grammar.Symbol.TheVariants.{Inner, More}
 use Rattle.dps_syntax.specs.Tree.{Lexeme, Parts, none, token, inner as within, words}
-use Rattle.dps_syntax.specs.Grammar.{Derives, done as nothing, sign, inner, taken, left, IsOneOf, alternatives, sign_of, zero_sign}
+use Rattle.dps_syntax.specs.Grammar.{Derives, done as nothing, sign, inner, taken, left, sign_of, zero_sign}
 use Rattle.dps_scopes.specs.declared.meaning.Meaning.{Meaning}
 use Rattle.dps_scopes.specs.declared.meaning.Meaning.TheVariants.{Local as a_local, Name as a_name, Function as a_function, Process as a_process, Projection as a_projection, Unknown as unknown}
-use Rattle.dps_scopes.specs.Outcome.{Outcome, done, faulty, and_then, fault_at}
+use Rattle.dps_scopes.specs.Outcome.{Outcome, done}
 use Rattle.dps_scopes.specs.Scopes.{Locals, meaning}
-use Rattle.dps_scopes.specs.Terms.{is_kind, count_inner, term, terms}
-use Rattle.dps_names.specs.Program.{Written, Body, nil, parallel, choice, copies, fresh, output, call, Definition}
-use Rattle.dps_names.specs.Processes.{joined, called, call_as, channel, parallels, choices, process, grouped, repeated, restricted, sent, continued, is_number_of_copies, number_of}
-use Rattle.dps_judge.specs.Unbuilt.{is_unbuilt_word, is_unbuilt, opening}
+use Rattle.dps_scopes.specs.Terms.{count_inner, term, terms}
+use Rattle.dps_names.specs.Program.{Written, Body, choice, Definition}
+use Rattle.dps_names.specs.Processes.{joined, called, call_as, channel, parallels, choices, process, grouped, repeated, restricted, sent, continued, is_number_of_copies}
+use Rattle.dps_judge.specs.Unbuilt.{is_unbuilt, opening}
 use Rattle.dps_judge.proofs.Rows.{IsClean, IsOf, IsTree, IsRow, holds, row}
 use Rattle.dps_judge.proofs.Fitting.{Fits, fits, kind_is}
 use Rattle.dps_judge.proofs.PlainNames.{OnDone, on_then, on_if, Keeps, term_keeps, terms_keep, channel_keeps}

@@ -1,10 +1,10 @@
 -- Processes of `0`, `|`, copies, `new`, outputs and calls, written out: `0`, `|` and outputs alone.
-use Rattle.std.proofs.Common.{◌≡◌, ℕ, zero, suc, ◌-◌, ◌<◌, Bool, true, false, if◌then◌else◌, List, [], ◌∷◌, ◌++◌, Option, Some, None, length, slice_get, unwrap_or, refl, sym, ap, subst, ◌∙◌, arith}
+use Rattle.std.proofs.Common.{◌≡◌, ℕ, zero, suc, ◌-◌, ◌<◌, Bool, true, false, if◌then◌else◌, List, [], ◌∷◌, ◌++◌, Option, Some, None, length, slice_get, unwrap_or, sym, ap, subst, ◌∙◌, arith}
 use Rattle.std.specs.List.{All}
 use Rattle.std.proofs.lemmas.List.Elements.{All-head, All-tail, All-weaker}
 use Rattle.dps_lex.specs.declared.vocabulary.Place.{Place}
 use Rattle.dps_signature.specs.declared.SymKind.TheVariants.{Constructor}
-use Rattle.dps_signature.specs.Signature.{Name, Signature, IsPublic}
+use Rattle.dps_signature.specs.Signature.{Name, Signature}
 use Rattle.dps_process.specs.Process as process
 use Rattle.dps_process.specs.Process.{Process, EachChannel}
 use Rattle.dps_process.specs.Problem.{Problem, IsLawfulSide, IsLawful}
@@ -14,7 +14,7 @@ use Rattle.dps_names.specs.Program.{Program, Definition, Body, Bodies, nil, para
 use Rattle.dps_elab.specs.declared.found.PrivateUse.{PrivateUse}
 use Rattle.dps_elab.specs.declared.found.ChannelUse.{ChannelUse}
 use Rattle.dps_elab.specs.declared.fault.ExpansionCause.{ExpansionCause}
-use Rattle.dps_elab.specs.Expansion.{Value, Expansion, Expanding, nothing, and_copies, made, one_name, values_of}
+use Rattle.dps_elab.specs.Expansion.{Value, Expanding, nothing, and_copies, one_name, values_of}
 use Rattle.dps_elab.specs.Expansion.{expand, chain, chain_behind, meanings, private_names, expansion, left_expansion, right_expansion}
 use Rattle.dps_elab.specs.Limits.{is_too_large}
 use Rattle.dps_elab.specs.Meaning.{Expanded, sides, refused, first_such, is_no_channel, is_channel, checked_privates, checked_channels, expanded}

@@ -1,14 +1,14 @@
 -- Without tuples there are no projections.
-use Rattle.std.proofs.Common.{◌≡◌, ℕ, ◌+◌, ◌<◌, Bool, true, false, ◌&&◌, eqb, List, [], ◌∷◌, ◌++◌, Option, Some, None, length, get_or, refl, sym, ap, subst, ◌∙◌}
+use Rattle.std.proofs.Common.{◌≡◌, ℕ, ◌+◌, Bool, true, false, ◌&&◌, eqb, List, [], ◌∷◌, ◌++◌, Option, Some, None, get_or, refl, sym, ap, subst, ◌∙◌}
 use Rattle.std.specs.Prelude.{map, position}
 use Rattle.std.specs.List.{All}
 use Rattle.std.specs.Str.{byte, bytes_eq}
 use Rattle.std.proofs.lemmas.Bool.{eqb-true}
 use Rattle.std.proofs.lemmas.List.Elements.{All-weaker}
 use Rattle.std.proofs.lemmas.List.Quantifiers.{position-Some}
-use Rattle.dps_signature.specs.Signature.{Symbol, Signature, shapes}
-use Rattle.dps_signature.specs.Names.{is_letter, is_name_byte, tuple_name, symbol_named}
-use Rattle.dps_theory.specs.Theory.{Rule, Theory}
+use Rattle.dps_signature.specs.Signature.{Signature, shapes}
+use Rattle.dps_signature.specs.Names.{tuple_name}
+use Rattle.dps_theory.specs.Theory.{Rule}
 use Rattle.dps_scopes.specs.Scopes.{is_word}
 use Rattle.dps_names.specs.Program.{Program}
 use Rattle.std.specs.List.{flat_map, range_with_len}

@@ -1,5 +1,5 @@
 -- What the grammar says of the parts of one production, where nothing is used that is not judged yet.
-use Rattle.std.proofs.Common.{◌≡◌, Bool, true, false, ◌&&◌, if◌then◌else◌, List, [], ◌∷◌, ◌++◌, Option, Some, None, refl, sym, ap, subst}
+use Rattle.std.proofs.Common.{◌≡◌, Bool, true, false, ◌&&◌, if◌then◌else◌, List, [], ◌∷◌, ◌++◌, Option, Some, None, refl, sym, subst}
 use denote.Enum.Bare.{sameb, same_true}
 use Rattle.dps_lex.specs.declared.vocabulary.Place.{Place}
 use Rattle.dps_syntax.specs.contracts.grammar.Production.{the_type as productions}
@@ -10,7 +10,7 @@ use Rattle.dps_syntax.specs.declared.grammar.More.{More as Option_of}
 use Rattle.dps_syntax.specs.declared.grammar.More.TheVariants as more
 use Rattle.dps_syntax.specs.declared.grammar.Symbol.{Symbol}
 use Rattle.dps_syntax.specs.declared.grammar.Symbol.TheVariants.{Sign, Inner, More, Close}
-use Rattle.dps_syntax.specs.Tree.{Lexeme, Parts, none, token, inner as within, words}
+use Rattle.dps_syntax.specs.Tree.{Parts, none, token, inner as within, words}
 use Rattle.dps_syntax.specs.Grammar.{Derives, done, sign, inner, taken, left, IsOneOf, alternatives, continuation}
 use Rattle.dps_scopes.specs.Faults.{place_of}
 use Rattle.dps_judge.specs.Unbuilt.{is_unbuilt, opening, or_else, first_among}

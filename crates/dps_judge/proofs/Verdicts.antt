@@ -1,14 +1,13 @@
 -- No text has two verdicts, and each has one.
-use Rattle.std.proofs.Common.{◌≡◌, ◌⊎◌, ℕ, ◌≤◌, length, List, Option, Some, None, refl, sym, ap, subst, ◌∙◌, inl, inr}
+use Rattle.std.proofs.Common.{◌≡◌, ◌⊎◌, ℕ, List, Option, Some, None, refl, sym, ap, ◌∙◌, inl, inr}
 use Rattle.dps_lex.specs.declared.vocabulary.Place.{Place}
-use Rattle.dps_syntax.specs.declared.tree.Decl.{Decl}
 use Rattle.dps_process.specs.Models.{Model}
 use Rattle.dps_process.specs.Problem.{Problem}
 use Rattle.dps_meaning.specs.Causes.{cause_text}
-use Rattle.dps_meaning.specs.Meaning.{HasDeclarations, Means}
+use Rattle.dps_meaning.specs.Meaning.{Means}
 use Rattle.dps_meaning.specs.Laws.{NoTextHasTwoFaults, NoTextHasTwoTheoryFaults, NoTextHasTwoFiles, NoTextHasFaultAndTheory, NoTextHasFaultAndMeaning, IsMeant, EachTextHasFaultOrMeaning}
 use Rattle.dps_judge.specs.Meaning.{MeansJudged}
-use Rattle.dps_judge.specs.Judgement.{HasNoTheory, IsUnbuilt, IsRefused, meaningless, unbuilt, not_built}
+use Rattle.dps_judge.specs.Judgement.{IsUnbuilt, IsRefused, meaningless, unbuilt, not_built}
 use Rattle.dps_judge.specs.LawsOfTexts.{NoTextIsRefusedTwice, NoTheoryIsRefusedTwice, NoTextIsRefusedAndJudged, NoTextHasTheoryAndNone, EachTextIsRefusedOrJudged}
 use Rattle.dps_judge.specs.Unbuilt.{first_unbuilt}
 

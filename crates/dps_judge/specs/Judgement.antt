@@ -53,7 +53,7 @@ pub record IsAttackText (problem : Problem) (text : List ℕ) : Type 0 where
   pub side : Side
   pub channels : List ℕ
   pub attack : IsLeastAttack problem side channels
-  pub same : text ≡ trace_text problem.signature side (word_of channels)
+  pub same : text ≡ trace_text problem.signature problem.model side (word_of channels)
 
 -- The text means a problem in this model that has an attack, and this is the text of the least one.
 pub record IsAttacked (model : Model) (bytes : List ℕ) (trace : List ℕ) : Type 0 where

@@ -3,3 +3,4 @@ pub mod Unbuilt
 pub mod Meaning
 pub mod Judgement
 pub mod LawsOfTexts
+pub mod Reading

@@ -5,6 +5,7 @@ use Rattle.dps_branch.specs.declared.Side.{Side}
 use Rattle.dps_branch.specs.declared.Side.TheVariants.{Left, Right}
 use Rattle.dps_signature.specs.Signature.{Signature}
 use Rattle.dps_signature.specs.Text.{name_text, term_text}
+use Rattle.dps_process.specs.Models.{Model, Private, Classic, Eavesdrop}
 use Rattle.dps_process.specs.Steps.{Label, inputs, outputs, overhears}
 
 -- `in(c,R)`, `out(c,axj)` and `eav(c,axj)`
@@ -22,7 +23,12 @@ abbrev pub side_text : Side → List ℕ
 side_text Left = codes "left"
 side_text Right = codes "right"
 
--- the trace of a side with these labels
-abbrev pub trace_text : Signature → Side → List Label → List ℕ
-trace_text signature side labels =
-    codes "trace 1" ++ (10 ∷ (codes "side: " ++ (side_text side ++ (10 ∷ label_lines signature labels))))
+-- the lines before the name of the side, with the model's name
+abbrev pub head_text : Model → List ℕ
+head_text Private = codes "trace 2\nmodel: private\nside: "
+head_text Classic = codes "trace 2\nmodel: classic\nside: "
+head_text Eavesdrop = codes "trace 2\nmodel: eavesdrop\nside: "
+
+-- the trace of a side with these labels, in format 2
+abbrev pub trace_text : Signature → Model → Side → List Label → List ℕ
+trace_text signature model side labels = head_text model ++ (side_text side ++ (10 ∷ label_lines signature labels))

@@ -1,5 +1,5 @@
 -- What is read, and not judged yet.
-use Rattle.std.specs.Prelude.{ℕ, Bool, true, false, ◌&&◌, ◌||◌, if◌then◌else◌, List, Option, Some, None}
+use Rattle.std.specs.Prelude.{Bool, true, false, ◌&&◌, ◌||◌, if◌then◌else◌, List, Option, Some, None}
 use Rattle.dps_lex.specs.declared.vocabulary.Place.{Place}
 use Rattle.dps_lex.specs.declared.vocabulary.TokenKind.TheVariants as kinds
 use Rattle.dps_syntax.specs.declared.grammar.Production.{Production}

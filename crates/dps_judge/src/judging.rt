@@ -119,7 +119,7 @@ fn answer(alloc: Global, problem: &Problem) -> Result<Verdict, NoMemory>
     match plain_check(alloc, problem)? {
         None => Ok(Verdict::Equivalent),
         Some(attack) => Ok(Verdict::NotEquivalent {
-            trace: trace_text(alloc, problem.signature(), &attack)?,
+            trace: trace_text(alloc, problem.signature(), problem.model(), &attack)?,
         }),
     }
 }

@@ -4,6 +4,7 @@
 
 mod judging;
 pub mod laws;
+mod reading;
 #[cfg(test)]
 mod tests;
 mod theory;
@@ -12,6 +13,7 @@ mod unbuilt;
 mod verdict;
 
 pub use judging::judge;
+pub use reading::{Meaning, read_problem};
 pub use theory::judge_theory;
 pub use unbuilt::first_unbuilt;
 pub use verdict::{TheoryVerdict, Verdict};

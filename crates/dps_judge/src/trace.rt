@@ -1,10 +1,12 @@
 //! The texts of traces.
 ghost use Rattle.std.specs.Prelude.{◌≡◌, ◌<◌, ◌+◌, ◌++◌, ◌^◌, [], ◌∷◌, All, length, string_bytes, IfOk, OnOk};
+ghost use Rattle.dps_process.specs.Models.{model_of};
 ghost use Rattle.dps_process.specs.Steps.{outputs};
 ghost use Rattle.dps_tree.specs.Words.{word_of};
-ghost use Rattle.dps_judge.specs.Traces.{label_text, side_text, trace_text};
+ghost use Rattle.dps_judge.specs.Traces.{label_text, head_text, side_text, trace_text};
 
 use dps_branch::Side;
+use dps_process::CommModel;
 use dps_signature::Signature;
 use dps_terms::NoMemory;
 use dps_tree::PlainAttack;
@@ -16,6 +18,16 @@ fn side_text(side: Side) -> &'static str
     match side {
         Side::Left => "left",
         Side::Right => "right",
+    }
+}
+
+/// The lines before the name of the side, and what stands before it in its line.
+fn head_text(model: CommModel) -> &'static str
+    ensures { result.now ≡ head_text (model_of model) }
+{
+    match model {
+        CommModel::Private => "trace 2\nmodel: private\nside: ",
+        CommModel::Classic => "trace 2\nmodel: classic\nside: ",
     }
 }
 
@@ -34,18 +46,19 @@ fn write_output(
     write!(text, ",ax{number})\n")
 }
 
-/// The text of a trace that puts out messages on these channels, which are names of the signature.
+/// The text, in format 2, of a trace that puts out messages on these channels, which are names of the signature.
 #[tactic(auto, using(crate::proofs::Lines::line_more))]
 pub(crate) fn trace_text(
     alloc: Global,
     signature: &Signature,
+    model: CommModel,
     attack: &PlainAttack,
 ) -> Result<String, NoMemory>
     requires { All (λ c. c < length signature.now.names) attack.now.channels.items }
-    ensures { IfOk result (λ text. string_bytes text ≡ trace_text signature.now attack.now.side (word_of attack.now.channels.items)) }
+    ensures { IfOk result (λ text. string_bytes text ≡ trace_text signature.now (model_of model) attack.now.side (word_of attack.now.channels.items)) }
 {
     let mut text = String::new(alloc);
-    text.push_str("trace 1\nside: ")?;
+    text.push_str(head_text(model))?;
     text.push_str(side_text(attack.side))?;
     text.push_str("\n")?;
     for (index, channel) in attack.channels.iter().enumerate() {

@@ -3,15 +3,17 @@ use crate::{Command, PlanRefusal, plan};
 use std::alloc::Global;
 use std::test::Fail;
 
-// The command and the number that the words ask for. Each plan has the second word alone.
-fn asked(alloc: Global, words: &[&str]) -> Result<Result<(Command, u32), PlanRefusal>, Fail> {
+// The command, the number and the number of the first file that the words ask for.
+fn asked(alloc: Global, words: &[&str]) -> Result<Result<(Command, u32, u32), PlanRefusal>, Fail> {
     let mut given = Vec::new(alloc);
     for word in words {
         given.push(String::from_str(alloc, *word)?)?;
     }
     match plan(alloc, &given) {
-        Ok(plan) if plan.words.as_slice() == [2].as_slice() => Ok(Ok((plan.command, plan.number))),
-        Ok(_) => Err(Fail::from("the plan names another word")),
+        Ok(plan) => match plan.words.as_slice() {
+            [file, ..] => Ok(Ok((plan.command, plan.number, *file))),
+            [] => Err(Fail::from("the plan names no word")),
+        },
         Err(refusal) => Ok(Err(refusal)),
     }
 }
@@ -19,10 +21,36 @@ fn asked(alloc: Global, words: &[&str]) -> Result<Result<(Command, u32), PlanRef
 #[test]
 fn words_have_their_plans(rt: HostRuntime) -> Result<(), Fail> {
     for (words, wanted) in [
-        (["check", "F"].as_slice(), Ok((Command::Check, 0))),
-        (["theory", "--x"].as_slice(), Ok((Command::Theory, 0))),
-        (["gen", "0"].as_slice(), Ok((Command::Gen, 0))),
-        (["gen", "87"].as_slice(), Ok((Command::Gen, 87))),
+        (["check", "F"].as_slice(), Ok((Command::Check, 0, 2))),
+        (["theory", "--x"].as_slice(), Ok((Command::Theory, 0, 2))),
+        (
+            ["replay", "F", "--x"].as_slice(),
+            Ok((Command::Replay, 0, 2)),
+        ),
+        (
+            ["replay", "--semantics", "classic", "F", "T"].as_slice(),
+            Ok((Command::Replay, 0, 4)),
+        ),
+        (["replay"].as_slice(), Err(PlanRefusal::Wrong(2))),
+        (["replay", "F"].as_slice(), Err(PlanRefusal::Wrong(3))),
+        (
+            ["replay", "--model", "F"].as_slice(),
+            Err(PlanRefusal::Wrong(2)),
+        ),
+        (
+            ["replay", "--semantics", "eavesdrop", "F"].as_slice(),
+            Err(PlanRefusal::Wrong(3)),
+        ),
+        (
+            ["replay", "--semantics", "private", "--semantics"].as_slice(),
+            Err(PlanRefusal::Wrong(4)),
+        ),
+        (
+            ["replay", "F", "T", "U"].as_slice(),
+            Err(PlanRefusal::Wrong(4)),
+        ),
+        (["gen", "0"].as_slice(), Ok((Command::Gen, 0, 2))),
+        (["gen", "87"].as_slice(), Ok((Command::Gen, 87, 2))),
         (["gen", "88"].as_slice(), Err(PlanRefusal::Wrong(2))),
         (["gen", "07"].as_slice(), Err(PlanRefusal::Wrong(2))),
         (["gen", "88", "7"].as_slice(), Err(PlanRefusal::Wrong(2))),

@@ -1,10 +1,21 @@
 use Rattle.std.proofs.Common.{subst}
 use Rattle.dps_judge.specs.declared.verdict.TheoryVerdict.{TheoryVerdict}
 use Rattle.dps_judge.specs.Judgement.{IsTheoryJudged}
+use Rattle.dps_words.specs.declared.command.Command.TheVariants.{Theory}
 use Rattle.dps_words.specs.Words.{texts}
-use Rattle.deepsec_main.specs.Answers.{IsRead}
-use Rattle.deepsec_main.proofs.Reading.{theory_refused}
+use Rattle.deepsec_main.specs.Answers.{IsRead, alone}
+use Rattle.deepsec_main.proofs.Reading.{unread_caused, file_without_memory, theory_refused}
 use Rattle.deepsec_main.proofs.run.theory.Goals as goal
+
+pub returns-in-Err-clause-caused : goal.returns-in-Err-clause-caused
+returns-in-Err-clause-caused g c =
+    unread_caused (g.F.Files.state c.args.files.now) (g.F.Files.state c.file_bytes.new.files) (texts c.args.words.now) c.args.file c.in-Err.outcome (alone Theory tt c.requires)
+    c.in-Err.ensures.unread
+
+pub returns-in-Err-judge_theory-clause-caused : goal.returns-in-Err-judge_theory-clause-caused
+returns-in-Err-judge_theory-clause-caused g c =
+    file_without_memory (g.F.Files.state c.args.files.now) (g.F.Files.state c.file_bytes.new.files) (texts c.args.words.now) c.args.file c.in-Ok.bytes.items c.in-Ok.ensures.read
+    (alone Theory tt c.requires)
 
 pub returns-clause-caused : goal.returns-clause-caused
 returns-clause-caused g c =

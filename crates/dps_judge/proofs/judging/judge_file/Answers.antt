@@ -1,8 +1,6 @@
-use Rattle.std.specs.Prelude.{List}
 use Rattle.dps_process.specs.Models.{Model, model_of}
 use Rattle.dps_lex.specs.declared.vocabulary.Place.{Place}
 use Rattle.dps_meaning.specs.Causes.{cause_of, cause_text}
-use Rattle.dps_meaning.specs.Refusals.{IsProblemRefusal}
 use Rattle.dps_judge.specs.Judgement.{JudgesFile, Refuses}
 use Rattle.std.proofs.Common.{subst}
 use Rattle.dps_judge.proofs.Answering.{in_ok, faulty_judged}

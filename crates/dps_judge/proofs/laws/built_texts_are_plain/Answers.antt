@@ -1,8 +1,3 @@
-use Rattle.std.proofs.Common.{◌≡◌, refl, ap, ◌∙◌, subst, sym}
-use Rattle.std.proofs.lemmas.List.Elements.{All-weaker}
-use Rattle.dps_signature.specs.Signature.{Signature}
-use Rattle.dps_signature.specs.declared.SymKind.TheVariants.{Constructor}
-use Rattle.dps_tree.specs.Plain.{IsPlain}
 use Rattle.dps_judge.proofs.PlainPrograms.{file_plain}
 use Rattle.dps_judge.proofs.PlainSides.{plain_problem}
 use Rattle.dps_judge.proofs.laws.built_texts_are_plain.Goals as goal
