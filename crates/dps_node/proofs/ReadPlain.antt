@@ -5,6 +5,7 @@ use Rattle.std.proofs.lemmas.List.{map-append, take_all}
 use Rattle.std.proofs.lemmas.List.Elements.{All-nil, All-cons, All-head, All-tail, All-append}
 use Rattle.std.proofs.Math.Dec.{eqb}
 use Rattle.std.proofs.Math.Bool.{beq}
+use Rattle.std.proofs.lemmas.Bool.{eqb-true}
 use Rattle.std.proofs.lemmas.Bool.Decides.{eqb_tells}
 use Rattle.dps_terms.specs.Tree.{var, Tree, leaf}
 use Rattle.dps_terms.specs.Same.{same, same-true, same-self}
@@ -171,9 +172,8 @@ none_moved levels ls plain fs ds e d h = subst (All (λ (f : CodeFound). is_plai
 
 -- whether anything is found, by the test
 pub none_there : (n : ℕ) → eqb n 0 ≡ true → n ≡ 0
-none_there zero e = refl
-none_there (suc n) e = cc
+none_there n e = eqb-true n 0 e
 
 pub some_there : (n : ℕ) → eqb n 0 ≡ false → 0 < n
-some_there zero e = cc
+some_there zero e = let d : true ≡ false = e in cc
 some_there (suc n) e = omega arith

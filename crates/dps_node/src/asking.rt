@@ -126,11 +126,7 @@ pub fn find_counted(
 }
 
 /// Adds the solutions of the query at the place.
-fn append(
-    found: &mut Vec<Found>,
-    place: usize,
-    mut solutions: Vec<Mgs>,
-) -> Result<(), NoMemory>
+fn append(found: &mut Vec<Found>, place: usize, mut solutions: Vec<Mgs>) -> Result<(), NoMemory>
     ensures { OnOk result (found.new.items ≡ found.old.items ++ map (found_at place) solutions.items) }
 {
     solutions.as_mut_slice().reverse();
