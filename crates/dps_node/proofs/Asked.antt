@@ -1,13 +1,9 @@
 -- What is found by the queries of a question one after another.
-use Rattle.std.proofs.Common.{◌≡◌, ℕ, zero, suc, ◌+◌, ◌<◌, ◌≤◌, Bool, true, false, cond, ◌&&◌, not, nat_eq, List, [], ◌∷◌, ◌++◌, Option, Some, None, length, get_or, take, drop, map, refl, ap, sym, subst, ◌∙◌, arith, append_assoc, inl, inr}
-use Rattle.std.specs.Prelude.{All, reverse, ◌⊎◌, ◌≢◌}
+use Rattle.std.proofs.Common.{◌≡◌, ℕ, zero, suc, ◌+◌, ◌<◌, List, [], ◌∷◌, ◌++◌, None, length, get_or, take, map, refl, ap, sym, subst, ◌∙◌, arith, append_assoc}
+use Rattle.std.specs.Prelude.{All, reverse}
 use Rattle.std.proofs.lemmas.List.{map-append, append-nil, reverse-append}
 use Rattle.std.proofs.lemmas.List.Elements.{All-nil, All-cons, All-append}
-use Rattle.std.proofs.Math.Dec.{eqb}
-use Rattle.std.proofs.lemmas.Bool.Decides.{eqb_tells}
-use Rattle.dps_terms.specs.Tree.{var, Tree, leaf}
-use Rattle.dps_terms.specs.Same.{same, same-true, same-self}
-use Rattle.dps_terms.specs.Bindings.{image}
+use Rattle.dps_terms.specs.Tree.{var, leaf}
 use Rattle.dps_unify.specs.Order.{level_of}
 use Rattle.dps_solver.specs.Scene.{Scene, Ask}
 use Rattle.dps_solver.specs.Search.{GeneralSolution, Branch, Way, Lists, gives, drops, goes_on, ListsBy, no_way, leads, ends, Finds, unsolvable, starts, solution_of, IsSpentWithin}
@@ -20,7 +16,6 @@ use Rattle.dps_symeval.proofs.Mapping.{all_mapped_within}
 use Rattle.dps_node.specs.declared.asking.Found.{Found as CodeFound}
 use Rattle.dps_node.specs.Questions.{Query, Question, Found, FindsAll, no_ask, an_ask}
 use Rattle.dps_node.specs.Asking.{found_at, found_in, no_query}
-use Rattle.dps_node.proofs.Once.{finds_all_once}
 use Rattle.dps_renewal.proofs.EachOnce.{one_more}
 
 -- solutions leave all but the scene's variables

@@ -1,6 +1,6 @@
 -- How what is found is read.
-use Rattle.std.proofs.Common.{◌≡◌, ℕ, zero, suc, ◌+◌, ◌<◌, ◌≤◌, Bool, true, false, cond, ◌&&◌, not, nat_eq, List, [], ◌∷◌, ◌++◌, Option, Some, None, length, get_or, take, drop, map, unwrap_or, refl, ap, sym, subst, ◌∙◌, arith, inl, inr}
-use Rattle.std.specs.Prelude.{All, IsTrue, ◌⊎◌, ◌≢◌, if◌then◌else◌}
+use Rattle.std.proofs.Common.{◌≡◌, ℕ, zero, suc, ◌+◌, ◌<◌, ◌≤◌, Bool, true, false, cond, ◌&&◌, not, List, [], ◌∷◌, ◌++◌, Option, Some, None, length, get_or, take, drop, map, unwrap_or, refl, ap, sym, subst, ◌∙◌, arith, inl, inr}
+use Rattle.std.specs.Prelude.{All, IsTrue, ◌⊎◌, ◌≢◌}
 use Rattle.std.proofs.lemmas.List.{map-append, take_all}
 use Rattle.std.proofs.lemmas.List.Elements.{All-nil, All-cons, All-head, All-tail, All-append}
 use Rattle.std.proofs.Math.Dec.{eqb}
@@ -12,10 +12,9 @@ use Rattle.dps_terms.specs.Same.{same, same-true, same-self}
 use Rattle.dps_terms.specs.Bindings.{bound, image}
 use Rattle.dps_unify.specs.Order.{level_of}
 use Rattle.dps_solver.specs.Scene.{Scene}
-use Rattle.dps_solver.specs.Search.{GeneralSolution, IsPlain}
 use Rattle.dps_search.specs.Code.{solution_seen}
 use Rattle.dps_node.specs.declared.asking.Found.{Found as CodeFound}
-use Rattle.dps_node.specs.Questions.{Question, Found, Answer, decided, undecided, IsPlainlyFound, Answers, holds, fails, open_at, AnswersWhole, holds_by_all, fails_by_all, open_in}
+use Rattle.dps_node.specs.Questions.{Question, Found, decided, undecided, IsPlainlyFound, Answers, holds, fails, open_at, AnswersWhole, holds_by_all, fails_by_all, open_in}
 use Rattle.dps_node.specs.Asking.{found_in, binds_nothing, is_plain_as}
 use Rattle.dps_renewal.proofs.EachOnce.{one_more}
 use Rattle.dps_node.proofs.Asked.{HasOwn}
