@@ -17,4 +17,6 @@ pub mod Entries
 pub mod Opening
 pub mod Renewed
 pub mod Mapped
+pub mod Asked
+pub mod ReadPlain
 pub mod Valuing

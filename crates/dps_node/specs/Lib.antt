@@ -7,6 +7,7 @@ pub mod Pruning
 pub mod Truth
 pub mod Invariant
 pub mod Code
+pub mod Asking
 pub mod Outcome
 pub mod Settling
 pub mod Knowing

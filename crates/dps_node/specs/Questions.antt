@@ -138,13 +138,17 @@ pub data AnswersWhole : List Found → Answer → Type 0 where
       → found ≡ before ++ (f ∷ after) → All IsPlainlyFound before → ¬ IsPlainlyFound f → answer ≡ undecided f.1
       → AnswersWhole found answer
 
--- The question is asked in the configuration: one step, and one for each move.
-pub record Asks (reads : List Found → Answer → Type 0) (node : Node) (c : SymbolicConfig) (question : Question) (answer : Answer) (steps : ℕ) : Type 0 where
+-- The question is asked in the scene: one step, and one for each move.
+pub record AsksIn (reads : List Found → Answer → Type 0) (scene : Scene) (question : Question) (answer : Answer) (steps : ℕ) : Type 0 where
   pub found : List Found
   pub moves : ℕ
-  pub finds : FindsAll (scene_of node c) question found moves
+  pub finds : FindsAll scene question found moves
   pub answers : reads found answer
   pub counted : steps ≡ 1 + moves
+
+-- and in a configuration of a node
+abbrev pub Asks : (List Found → Answer → Type 0) → Node → SymbolicConfig → Question → Answer → ℕ → Type 0
+Asks reads node c question answer steps = AsksIn reads (scene_of node c) question answer steps
 
 -- what comes of several questions: the answers of all, or the first solution that divides
 pub data Replies : Type 0 where

@@ -2,6 +2,7 @@
 //! expanded.
 #![tactic(auto)]
 
+mod asking;
 mod beginning;
 mod configs;
 mod consistency;
@@ -18,6 +19,7 @@ mod splits;
 mod valuation;
 mod words;
 
+pub use asking::{Answer, Found, Query, ask, ask_whole, find_counted};
 pub use beginning::root;
 pub use consistency::consistent;
 pub use examples::{
