@@ -28,7 +28,9 @@ mutual
   lists_own scene ask (drops t r e m) = subst (All (HasOwn scene)) (sym e) (All-nil (HasOwn scene))
   lists_own scene ask (goes_on t h) = ways_own scene ask h
 
-  ways_own : (scene : Scene) (ask : Ask) {b : Branch} {z : Target} {rest : List Target} {ws : List Way} {list : List GeneralSolution} {moves : ℕ} → ListsBy scene ask b z rest ws list moves → All (HasOwn scene) list
+  ways_own :
+      (scene : Scene) (ask : Ask) {b : Branch} {z : Target} {rest : List Target} {ws : List Way} {list : List GeneralSolution} {moves : ℕ}
+      → ListsBy scene ask b z rest ws list moves → All (HasOwn scene) list
   ways_own scene ask no_way = All-nil (HasOwn scene)
   ways_own scene ask (leads {here = here} {others = others} l h t e m) = subst (All (HasOwn scene)) (sym e) (All-append (HasOwn scene) here others (lists_own scene ask h) (ways_own scene ask t))
   ways_own scene ask (ends n t m) = ways_own scene ask t
@@ -45,20 +47,28 @@ all_own scene (an_ask {q = q} {here = here} {others = others} h t l n) =
     (all_mapped_within (HasOwn scene) (λ (f : Found). HasOwn scene f.1) (λ (s : GeneralSolution). (q, s)) here (finds_own scene q.ask h) (λ s k. k)) (all_own scene t))
 
 -- one query more
-finds_behind : (scene : Scene) (q : Query) {here : List GeneralSolution} {m : ℕ} {qs : Question} {list : List Found} {n : ℕ} → FindsAll scene qs list n → Finds scene q.ask here m → FindsAll scene (qs ++ q ∷ []) (list ++ map (λ (s : GeneralSolution). (q, s)) here) (n + m)
+finds_behind :
+    (scene : Scene) (q : Query) {here : List GeneralSolution} {m : ℕ} {qs : Question} {list : List Found} {n : ℕ}
+    → FindsAll scene qs list n → Finds scene q.ask here m
+    → FindsAll scene (qs ++ q ∷ []) (list ++ map (λ (s : GeneralSolution). (q, s)) here) (n + m)
 finds_behind scene q {here = here} no_ask h = an_ask h no_ask (sym (append-nil (map (λ (s : GeneralSolution). (q, s)) here))) (omega arith)
 finds_behind scene q {here = here} {m = m} (an_ask {q = p} {here = first} {others = others} {first = k} {after = r} f t l n) h =
     an_ask f (finds_behind scene q t h)
     (ap (λ xs. xs ++ map (λ (s : GeneralSolution). (q, s)) here) l ∙ append_assoc (map (λ (s : GeneralSolution). (p, s)) first) others (map (λ (s : GeneralSolution). (q, s)) here))
     (omega (arith, n))
 
-pub finds_next : (scene : Scene) (qs : Question) (i : ℕ) (q : Query) (list : List Found) (here : List GeneralSolution) (n m : ℕ) → i < length qs → q ≡ get_or qs i q → FindsAll scene (take i qs) list n → Finds scene q.ask here m
+pub finds_next :
+    (scene : Scene) (qs : Question) (i : ℕ) (q : Query) (list : List Found) (here : List GeneralSolution) (n m : ℕ)
+    → i < length qs → q ≡ get_or qs i q → FindsAll scene (take i qs) list n → Finds scene q.ask here m
     → FindsAll scene (take (i + 1) qs) (list ++ map (λ (s : GeneralSolution). (q, s)) here) (n + m)
 finds_next scene qs i q list here n m l e t h =
     subst (λ xs. FindsAll scene xs (list ++ map (λ (s : GeneralSolution). (q, s)) here) (n + m)) (ap (λ p. take i qs ++ p ∷ []) e ∙ sym (one_more qs i q l)) (finds_behind scene q t h)
 
 -- what the front of a question takes, with one query more, is no more than what all takes
-pub front_takes : (scene : Scene) (qs : Question) (i : ℕ) (q : Query) (front list : List Found) (n moves left : ℕ) → i < length qs → q ≡ get_or qs i q → FindsAll scene (take i qs) front n → IsSpentWithin scene q.ask left → FindsAll scene qs list moves → left + n < moves
+pub front_takes :
+    (scene : Scene) (qs : Question) (i : ℕ) (q : Query) (front list : List Found) (n moves left : ℕ) → i < length qs
+    → q ≡ get_or qs i q → FindsAll scene (take i qs) front n → IsSpentWithin scene q.ask left → FindsAll scene qs list moves
+    → left + n < moves
 front_takes scene [] i q front list n moves left l e t spent all = absurd (omega (arith, l))
 front_takes scene (p ∷ qs) zero q front list n moves left l e no_ask spent (an_ask {here = here} {first = first} {after = after} f r k m) =
     let s : left < first = spent here first (subst (λ (x : Query). Finds scene x.ask here first) (sym e) f) in
@@ -69,7 +79,9 @@ front_takes scene (p ∷ qs) (suc i) q front list n moves left l e (an_ask {here
     omega (arith, same.1, rest, m, m')
 
 -- solutions one by one
-pub next_put : {A B : Type 0} (f : A → B) (all found after : List B) (cs popped : List A) (c : A) (v : B) → cs ≡ popped ++ c ∷ [] → v ≡ f c → after ≡ found ++ v ∷ [] → found ++ map f (reverse cs) ≡ all → after ++ map f (reverse popped) ≡ all
+pub next_put :
+    {A B : Type 0} (f : A → B) (all found after : List B) (cs popped : List A) (c : A) (v : B) → cs ≡ popped ++ c ∷ [] → v ≡ f c
+    → after ≡ found ++ v ∷ [] → found ++ map f (reverse cs) ≡ all → after ++ map f (reverse popped) ≡ all
 next_put f all found after cs popped c v e s a h =
     ap (λ xs. xs ++ map f (reverse popped)) a
     ∙ (append_assoc found (v ∷ []) (map f (reverse popped))
@@ -90,7 +102,9 @@ found_more qs k old new sols e =
     each [] = refl
     each (s ∷ ss) = ap (λ xs. (get_or qs k no_query, solution_seen s) ∷ xs) (each ss)
 
-pub places_more : (P : ℕ → Type 0) (k : ℕ) (old new : List CodeFound) (sols : List Mgs) → new ≡ old ++ map (found_at k) sols → P k → All (λ (f : CodeFound). P f.place) old → All (λ (f : CodeFound). P f.place) new
+pub places_more :
+    (P : ℕ → Type 0) (k : ℕ) (old new : List CodeFound) (sols : List Mgs) → new ≡ old ++ map (found_at k) sols → P k
+    → All (λ (f : CodeFound). P f.place) old → All (λ (f : CodeFound). P f.place) new
 places_more P k old new sols e p h =
     subst (All (λ (f : CodeFound). P f.place)) (sym e) (All-append (λ (f : CodeFound). P f.place) old (map (found_at k) sols) h (each sols))
   where

@@ -1,5 +1,6 @@
 -- How what is found is read.
-use Rattle.std.proofs.Common.{◌≡◌, ℕ, zero, suc, ◌+◌, ◌<◌, ◌≤◌, Bool, true, false, cond, ◌&&◌, not, List, [], ◌∷◌, ◌++◌, Option, Some, None, length, get_or, take, drop, map, unwrap_or, refl, ap, sym, subst, ◌∙◌, arith, inl, inr}
+use Rattle.std.proofs.Common.{◌≡◌, ℕ, zero, suc, ◌+◌, ◌<◌, ◌≤◌, Bool, true, false, cond, ◌&&◌, not, List, [], ◌∷◌, ◌++◌, Option, Some}
+use Rattle.std.proofs.Common.{None, length, get_or, take, drop, map, unwrap_or, refl, ap, sym, subst, ◌∙◌, arith, inl, inr}
 use Rattle.std.specs.Prelude.{All, IsTrue, ◌⊎◌, ◌≢◌}
 use Rattle.std.proofs.lemmas.List.{map-append, take_all}
 use Rattle.std.proofs.lemmas.List.Elements.{All-nil, All-cons, All-head, All-tail, All-append}
@@ -127,13 +128,17 @@ module _ (scene : Scene) (question : Question) where
   whole_false [] e = fails_by_all refl
   whole_false (f ∷ fs) e = absurd (omega (arith, e))
 
-  pub whole_true : (fs : List CodeFound) (d f : CodeFound) → All (λ (g : Found). HasOwn scene g.1) (those fs) → 0 < length fs → f ≡ get_or fs 0 d → All (λ (f : CodeFound). is_plain_as scene.system.levels false f ≡ false) fs
+  pub whole_true :
+      (fs : List CodeFound) (d f : CodeFound) → All (λ (g : Found). HasOwn scene g.1) (those fs) → 0 < length fs
+      → f ≡ get_or fs 0 d → All (λ (f : CodeFound). is_plain_as scene.system.levels false f ≡ false) fs
       → AnswersWhole (those fs) (decided (Some (found_in question f)))
   whole_true [] d f own l e h = absurd (omega (arith, l))
   whole_true (g ∷ fs) d f own l e h = holds_by_all (others_plain (g ∷ fs) own h) (ap (λ k. decided (Some (found_in question k))) e)
 
 -- whether a variable stays, by what is bound to it
-pub bound_told : (bindings : List (ℕ × Tree)) (x : ℕ) (t : Tree) (b : Bool) → Some t ≡ bound bindings x → (IsTrue b → t ≡ leaf (var x)) × (t ≡ leaf (var x) → IsTrue b) → b ≡ same (image bindings x) (leaf (var x))
+pub bound_told :
+    (bindings : List (ℕ × Tree)) (x : ℕ) (t : Tree) (b : Bool) → Some t ≡ bound bindings x
+    → (IsTrue b → t ≡ leaf (var x)) × (t ≡ leaf (var x) → IsTrue b) → b ≡ same (image bindings x) (leaf (var x))
 bound_told bindings x t b e h = by b (same t (leaf (var x))) refl h ∙ ap (λ o. same (unwrap_or o (leaf (var x))) (leaf (var x))) e
   where
     by : (b s : Bool) → same t (leaf (var x)) ≡ s → (IsTrue b → t ≡ leaf (var x)) × (t ≡ leaf (var x) → IsTrue b) → b ≡ same t (leaf (var x))
@@ -166,7 +171,10 @@ IsFirst levels plain fs i = (i < length fs) × All (λ (f : CodeFound). is_plain
 pub first_moved : (levels ls : List (ℕ × ℕ)) (plain : Bool) (fs ds : List CodeFound) (i : ℕ) → ls ≡ levels → ds ≡ fs → IsFirst ls plain ds i → IsFirst levels plain fs i
 first_moved levels ls plain fs ds i e d h = subst (λ xs. IsFirst levels plain xs i) d (subst (λ ks. IsFirst ks plain ds i) e h)
 
-pub none_moved : (levels ls : List (ℕ × ℕ)) (plain : Bool) (fs ds : List CodeFound) → ls ≡ levels → ds ≡ fs → All (λ (f : CodeFound). is_plain_as ls plain f ≡ false) ds → All (λ (f : CodeFound). is_plain_as levels plain f ≡ false) fs
+pub none_moved :
+    (levels ls : List (ℕ × ℕ)) (plain : Bool) (fs ds : List CodeFound) → ls ≡ levels → ds ≡ fs
+    → All (λ (f : CodeFound). is_plain_as ls plain f ≡ false) ds
+    → All (λ (f : CodeFound). is_plain_as levels plain f ≡ false) fs
 none_moved levels ls plain fs ds e d h = subst (All (λ (f : CodeFound). is_plain_as levels plain f ≡ false)) d (subst (λ ks. All (λ (f : CodeFound). is_plain_as ks plain f ≡ false) ds) e h)
 
 -- whether anything is found, by the test

@@ -8,7 +8,9 @@ use Rattle.dps_node.proofs.asking.append.Goals as goal
 
 pub loop-solution-init : goal.loop-solution-init
 loop-solution-init c =
-    let turned = reversed_back c.args.solutions.items c.reverse.new.self c.args.solutions.len (omega (arith, c.args.solutions.ok)) (c.reverse.ensures.after ∙ ap reverse c.as_mut_slice.ensures.value) in
+    let turned =
+    reversed_back c.args.solutions.items c.reverse.new.self c.args.solutions.len (omega (arith, c.args.solutions.ok))
+    (c.reverse.ensures.after ∙ ap reverse c.as_mut_slice.ensures.value) in
     ap (λ xs. c.args.found.now.items ++ map (found_at c.args.place) xs) (ap reverse turned ∙ reverse-reverse c.args.solutions.items)
 
 pub loop-solution-preserved : goal.loop-solution-preserved

@@ -60,7 +60,10 @@ returns-clause-answered c =
         found = map (found_in qs) fs;
         moves = h.0;
         finds = h.1;
-        answers = open_of (scene_of c.args.scene.now) qs fs f f (omega (arith, some_there (vec_len c.in_ok-found.found) (sym c.is_empty.ensures ∙ c.if-is_empty.false), c.in_ok-found.found.ok)) c.swap_remove-2.ensures.value none;
+        answers =
+            open_of (scene_of c.args.scene.now) qs fs f f
+            (omega (arith, some_there (vec_len c.in_ok-found.found) (sym c.is_empty.ensures ∙ c.if-is_empty.false), c.in_ok-found.found.ok))
+            c.swap_remove-2.ensures.value none;
         counted = omega (arith, h.2);
       },
     )

@@ -38,9 +38,12 @@ loop-place-preserved c =
     let list = map (found_in qs) c.loop-place.found.items in
     let n = c.loop-place.steps.used - (c.args.steps.now.used + 1) in
     let m = c.solve.new.steps.used - c.loop-place.steps.used in
-    let next = finds_next (scene_of c.args.scene.now) qs i q list (map solution_seen sols) n m (omega (arith, test, length-map question query_of)) at c.loop-place.invariant.finds c.in-Ok.ensures.found.0 in
+    let next =
+    finds_next (scene_of c.args.scene.now) qs i q list (map solution_seen sols) n m
+    (omega (arith, test, length-map question query_of)) at c.loop-place.invariant.finds c.in-Ok.ensures.found.0 in
     let more : map (found_in qs) c.append.new.found.items ≡ list ++ map (λ (s : GeneralSolution). (q, s)) (map solution_seen sols) =
-    found_more qs i c.loop-place.found.items c.append.new.found.items sols c.in_ok-append-in-Ok.ensures ∙ ap (λ (p : Query). list ++ map (λ (s : GeneralSolution). (p, s)) (map solution_seen sols)) same in
+    found_more qs i c.loop-place.found.items c.append.new.found.items sols c.in_ok-append-in-Ok.ensures
+    ∙ ap (λ (p : Query). list ++ map (λ (s : GeneralSolution). (p, s)) (map solution_seen sols)) same in
     record {
       finds = finds_moved (scene_of c.args.scene.now) (take (i + 1) qs) (list ++ map (λ (s : GeneralSolution). (q, s)) (map solution_seen sols)) (map (found_in qs) c.append.new.found.items) (n + m)
           (c.solve.new.steps.used - (c.args.steps.now.used + 1)) more (omega (arith, c.loop-place.invariant.begun, c.in-Ok.ensures.no_less)) next;
@@ -64,7 +67,8 @@ returns-in-Err-clause-spent c = λ e list moves h.
     let d : c.in-Err.stop ≡ Spent = cc in
     let spent : IsSpentWithin (scene_of c.args.scene.now) q.ask left = c.in-Err.ensures.spent (ap Err d) in
     let takes : left + n < moves =
-    front_takes (scene_of c.args.scene.now) qs i q (map (found_in qs) c.loop-place.found.items) list n moves left (omega (arith, test, length-map question query_of)) at c.loop-place.invariant.finds spent h in
+    front_takes (scene_of c.args.scene.now) qs i q (map (found_in qs) c.loop-place.found.items) list n moves left
+    (omega (arith, test, length-map question query_of)) at c.loop-place.invariant.finds spent h in
     omega (arith, takes, c.loop-place.invariant.begun, c.loop-place.invariant.within, c.loop-place.invariant.budget)
 
 pub returns : goal.returns
