@@ -25,6 +25,7 @@ abbrev pub IsAhead : List Row → ℕ → ℕ → Type 0
 IsAhead rows t u =
     (r q : Row) → slice_get rows t ≡ Some r → slice_get rows u ≡ Some q → is_open r.mark ≡ true → is_open q.mark ≡ true → before r.path q.path ≡ true
 
+-- the same beside each of these tickets
 abbrev pub IsAheadOfAll : List Row → ℕ → List ℕ → Type 0
 IsAheadOfAll rows t [] = Unit {0}
 IsAheadOfAll rows t (u ∷ tickets) = IsAhead rows t u × IsAheadOfAll rows t tickets
@@ -49,6 +50,7 @@ dropped_at [] t = []
 dropped_at (r ∷ rows) zero = row r.path (drop_mark r.mark) ∷ rows
 dropped_at (r ∷ rows) (suc t) = r ∷ dropped_at rows t
 
+-- the same at each of these tickets
 abbrev pub dropped_all : List Row → List ℕ → List Row
 dropped_all rows [] = rows
 dropped_all rows (t ∷ tickets) = dropped_all (dropped_at rows t) tickets

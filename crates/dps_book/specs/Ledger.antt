@@ -19,6 +19,7 @@ pub record Ledger : Type 0 where
   pub workers : ℕ
   pub journal : List Entry
 
+-- the book of so many workers before any call
 abbrev pub first_ledger : ℕ → Ledger
 first_ledger workers = record { book = first_book; workers = workers; journal = [] }
 
@@ -38,6 +39,7 @@ Holds l w t p = (m : Mark) × (slice_get l.book.rows t ≡ Some (row p m)) × (h
 abbrev pub IsReady : Ledger → ℕ → Type 0
 IsReady l w = (w < l.workers) × ((t : ℕ) (p : List ℕ) → Holds l w t p → ⊥)
 
+-- what a claim with this answer leaves in the journal
 abbrev pub after_claim : List Entry → ℕ → ℕ → claim_type.Claim → List Entry
 after_claim journal w t claim.Live = journal ++ entry.Claimed w t ∷ []
 after_claim journal w t claim.Dead = journal

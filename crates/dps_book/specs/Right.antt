@@ -31,6 +31,7 @@ pub record AreHeld (rows : List Row) (holds : List (Option ℕ)) : Type 0 where
   pub marked : (w t : ℕ) → slice_get holds w ≡ Some (Some t) → (r : Row) × (slice_get rows t ≡ Some r) × (holder r.mark ≡ Some w)
   pub held : (t w : ℕ) (r : Row) → slice_get rows t ≡ Some r → holder r.mark ≡ Some w → slice_get holds w ≡ Some (Some t)
 
+-- What the type of a book keeps: the journal, replayed, gives the rows, the best stop and the halt; counts and holds are theirs.
 pub record IsRight (rows : List Row) (best : Option (ℕ × StopKind)) (halted : Bool) (open_paths : ℕ) (holds : List (Option ℕ)) (claims : List ℕ) (journal : List Entry) (room : ℕ) : Type 0 where
   -- the journal tells how the book came to be
   pub replay : IsReplay first_book journal (record { rows = rows; best = best; halted = halted })

@@ -175,7 +175,8 @@ impl Book {
         }
     }
 
-    /// The worker claims the ticket as this path.
+    /// The worker claims the ticket as this path: `Live`, and then it holds it; `Dead` where the ticket is not this path, open
+    /// and unclaimed; `Halted` where a halt stands. Only `Live` changes the book.
     pub fn claim(&mut self, worker: u32, ticket: u64, path: &Path) -> Claim
         requires { IsReady self.old worker }
         ensures { IsClaim self.old worker ticket path.now result self.new }

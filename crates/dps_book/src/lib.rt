@@ -3,7 +3,8 @@
 //! A ticket is the index of a path in the book; the root has ticket 0. `specs/Ledger` has what each call says,
 //! `specs/Journal` how the journal is replayed. The book itself is that of the pure machine.
 //!
-//! No call looks through the paths: the tickets are linked in the order of their paths (`specs/InOrder`).
+//! The tickets are linked in the order of their paths (`specs/InOrder`), so no call looks through the paths but the post of
+//! a stop, which passes those that it cuts off, once and never again.
 #![tactic(auto)]
 
 mod book;
